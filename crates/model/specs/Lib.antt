@@ -1,0 +1,10 @@
+pub mod Below
+pub mod Word
+pub mod Class
+pub mod Layout
+pub mod View
+pub mod Standing
+pub mod Sound
+pub mod Numbers
+pub mod Ways
+pub mod Calls
