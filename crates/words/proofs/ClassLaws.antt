@@ -15,29 +15,40 @@ use Rattle.model.specs.Below.{all-below}
 use Rattle.model.specs.Class.{is-class, every-class, blocks, block-words, level-words, holds, class-of}
 use Rattle.laws.proofs.Below.{all-below-at, First, first-is, first-unique}
 
-pub class-bounds : {i : ℕ} → is-class i ≡ true → (3 ≤ i) × (i ≤ 12)
-class-bounds {i} h = let both = and-eq-true-iff (leb 3 i) (leb i 12) .0 h in (leb-true 3 i (both .0), leb-true i 12 (both .1))
+pub class-bounds : (i : ℕ) → is-class i ≡ true → (3 ≤ i) × (i ≤ 12)
+class-bounds i h = let both = and-eq-true-iff (leb 3 i) (leb i 12) .0 h in (leb-true 3 i (both .0), leb-true i 12 (both .1))
 
-pub bounds-class : {i : ℕ} → 3 ≤ i → i ≤ 12 → is-class i ≡ true
-bounds-class {i} l u = and-eq-true-iff (leb 3 i) (leb i 12) .1 (le-leb 3 i l, le-leb i 12 u)
+pub bounds-class : (i : ℕ) → 3 ≤ i → i ≤ 12 → is-class i ≡ true
+bounds-class i l u = and-eq-true-iff (leb 3 i) (leb i 12) .1 (le-leb 3 i l, le-leb i 12 u)
 
--- a test that each of the ten passes, which antt computes, is passed by any class
-pub class-rule : (p : ℕ → Bool) → every-class p ≡ true → (i : ℕ) → 3 ≤ i → i ≤ 12 → p i ≡ true
-class-rule p t i l u = rw sub-add-cancel at (all-below-at 10 (λ c. p (c + 3)) t (i - 3) (omega arith))
+-- a test that each of the ten classes passes is passed by any class
+pub class-rule : (p : ℕ → Bool) → every-class p ≡ true → (i : ℕ) → is-class i ≡ true → p i ≡ true
+class-rule p t i h =
+    let bounds = class-bounds i h in
+    let low = bounds .0 in
+    rw sub-add-cancel at (all-below-at 10 (λ c. p (c + 3)) t (i - 3) (omega arith))
 
--- the blocks of a segment fill its area
-pub blocks-fill : (i : ℕ) → 3 ≤ i → i ≤ 12 → blocks i * block-words i ≡ 4096
+-- the blocks of a segment fill its area, there are at most as many as a handle can number, and each has room for a header and a word
+pub blocks-fill : (i : ℕ) → is-class i ≡ true → blocks i * block-words i ≡ 4096
 unfolding all-below
-blocks-fill i l u = eqb-true _ _ (class-rule (λ i. eqb (blocks i * block-words i) 4096) refl i l u)
+blocks-fill i h = eqb-true _ _ (class-rule (λ i. eqb (blocks i * block-words i) 4096) refl i h)
 
--- rows of numbers, a row for each class from 3 on, that are the words at each level
+pub blocks-most : (i : ℕ) → is-class i ≡ true → blocks i ≤ 2048
+unfolding all-below
+blocks-most i h = leb-true _ _ (class-rule (λ i. leb (blocks i) 2048) refl i h)
+
+pub block-least : (i : ℕ) → is-class i ≡ true → 2 ≤ block-words i
+unfolding all-below
+block-least i h = leb-true _ _ (class-rule (λ i. leb 2 (block-words i)) refl i h)
+
+-- rows of numbers, a row for each class from 3 on, that are the class's words at each level
 abbrev pub rows-right : List (List ℕ) → Bool
 rows-right rows = every-class (λ i. all-below 3 (λ l. eqb (getD (getD rows (i - 3) []) l 0) (level-words i l)))
 
-pub row-rule : (rows : List (List ℕ)) → rows-right rows ≡ true → (i l : ℕ) → 3 ≤ i → i ≤ 12 → l < 3 → getD (getD rows (i - 3) []) l 0 ≡ level-words i l
-row-rule rows t i l hl hu h =
-    let row : ℕ → ℕ → Bool = λ i l. eqb (getD (getD rows (i - 3) []) l 0) (level-words i l) in
-    eqb-true _ _ (all-below-at 3 (row i) (class-rule (λ i. all-below 3 (row i)) t i hl hu) l h)
+pub row-rule : (rows : List (List ℕ)) → rows-right rows ≡ true → (i l : ℕ) → is-class i ≡ true → l < 3 → getD (getD rows (i - 3) []) l 0 ≡ level-words i l
+row-rule rows t i l h u =
+    let right : ℕ → ℕ → Bool = λ i l. eqb (getD (getD rows (i - 3) []) l 0) (level-words i l) in
+    eqb-true _ _ (all-below-at 3 (right i) (class-rule (λ i. all-below 3 (right i)) t i h) l u)
 
 -- ---- the class for n
 

@@ -5,3 +5,4 @@
 
 pub mod class;
 pub mod fields;
+pub mod handles;

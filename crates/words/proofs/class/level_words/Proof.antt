@@ -3,7 +3,7 @@
 use borrow.Author.Needs.{needs}
 use Rattle.model.specs.Below.{all-below}
 use Rattle.model.specs.Class.{level-words}
-use Rattle.words.proofs.ClassLaws.{row-rule}
+use Rattle.words.proofs.ClassLaws.{bounds-class, row-rule}
 use Rattle.words.proofs.class.level_words.Statement.{statement}
 use Rattle.words.proofs.class.level_words.Tie as tie
 
@@ -28,8 +28,7 @@ index-2-result c = search needs
 returns : tie.Need-returns
 unfolding all-below level-words
 returns c =
-    let low = c .before .pre .0 in
-    let high = c .before .pre .1 in
+    let class = bounds-class (c .before .args .class) (c .before .pre .0) (c .before .pre .1) in
     let level = c .before .pre .2 in
     rw row-rule
 
