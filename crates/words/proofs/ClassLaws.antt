@@ -4,7 +4,7 @@ use Prim.Native.Nat.{ℕ, zero, suc, _+_, _-_, _*_, _^_, _≤_, _<_}
 use mathlib.Core.Path.{_≡_, refl, sym, ap}
 use mathlib.Core.Logic.{_↔_, _⊎_, inl, inr, ⊎-elim}
 use mathlib.Core.Bool.{Bool, true, false, and-eq-true-iff}
-use mathlib.Core.List.{List, [], _∷_}
+use mathlib.Core.List.{List, []}
 use native.Mathlib.Nat.{eq-or-lt-of-le, le-of-suc-le-suc, lt-of-le-of-lt, lt-of-not-le, sub-add-cancel, two-pow-succ}
 use native.Mathlib.Omega.{arith}
 use lib.Dec.{eqb, leb}
@@ -125,6 +125,9 @@ class-high n = (
   λ h. omega (arith, pow-mono h, holds-room n (class-of n) (class-holds n)),
   λ h. le-of-suc-le-suc (lt-of-not-le (λ (past : 13 ≤ class-of n). omega (arith, lacks-room n 12 (class-before n 12 (omega arith) past)))),
 )
+
+pub class-small : (n : ℕ) → n ≤ 1023 → is-class (class-of n) ≡ true
+class-small n h = bounds-class (class-of n) (class-low n) (class-high n .1 h)
 
 -- a block of its class has room for a header and n words
 pub class-room : (n i : ℕ) → class-of n ≡ i → n + 1 ≤ block-words i

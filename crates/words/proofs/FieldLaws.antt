@@ -30,11 +30,11 @@ module _ (rank index : ℕ) (hr : rank < 256) (hi : index < 4096) where
   pub place-word-index : field 8 12 (place-word rank index) ≡ index
   place-word-index = omega arith
 
-  pub place-word-unnamed : unnamed 20 (place-word rank index) ≡ 0
-  place-word-unnamed = omega arith
-
   pub place-word-fits : place-word rank index < 2 ^ 32
   place-word-fits = omega arith
+
+pub place-word-unnamed : (rank index : ℕ) → unnamed 20 (place-word rank index) ≡ 0
+place-word-unnamed rank index = omega arith
 
 pub place-word-whole : (w : ℕ) → w < 2 ^ 32 → unnamed 20 w ≡ 0 → place-word (field 0 8 w) (field 8 12 w) ≡ w
 place-word-whole w h u = omega arith
@@ -51,11 +51,11 @@ module _ (class rank count : ℕ) (hc : class < 16) (hr : rank < 256) (hn : coun
   pub record-head-count : field 12 12 (record-head class rank count) ≡ count
   record-head-count = omega arith
 
-  pub record-head-unnamed : unnamed 24 (record-head class rank count) ≡ 0
-  record-head-unnamed = omega arith
-
   pub record-head-fits : record-head class rank count < 2 ^ 32
   record-head-fits = omega arith
+
+pub record-head-unnamed : (class rank count : ℕ) → unnamed 24 (record-head class rank count) ≡ 0
+record-head-unnamed class rank count = omega arith
 
 pub record-head-whole : (w : ℕ) → w < 2 ^ 32 → unnamed 24 w ≡ 0 → record-head (field 0 4 w) (field 4 8 w) (field 12 12 w) ≡ w
 record-head-whole w h u =

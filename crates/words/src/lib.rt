@@ -1,7 +1,8 @@
 // Leaves on one word: its bits, its packed fields, the class table, and the handle formula.
 //
-// Every function here is a few operations on numbers, and its contract is the definition of document 01
-// that it computes, as crate model states it. Nothing above this crate shifts or masks a word itself.
+// Each function is a few operations on numbers, and its contract is the definition of document 01 that
+// it computes, as crate model states it. What follows of those definitions, that a packed word gives
+// its fields back or that two blocks never overlap, stands in proofs/: FieldLaws, ClassLaws, HandleLaws.
 
 pub mod bits;
 pub mod class;
