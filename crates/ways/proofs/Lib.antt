@@ -1,2 +1,5 @@
 pub mod Order
 pub mod Least
+pub mod Listing
+pub mod Listed
+pub mod Count
