@@ -3,3 +3,4 @@ pub mod Least
 pub mod Listing
 pub mod Listed
 pub mod Count
+pub mod Put
