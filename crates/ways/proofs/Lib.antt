@@ -4,3 +4,4 @@ pub mod Listing
 pub mod Listed
 pub mod Count
 pub mod Put
+pub mod Frontier

@@ -91,6 +91,7 @@ put-all-grows L hs = put-all-keeps Grown step hs L ([], sym (append-nil L))
   where
     Grown : List ℕ → Type 0
     Grown M = (R : List ℕ) × (M ≡ L ++ R)
+
     step : (M : List ℕ) (h : ℕ) → Grown M → Grown (put-on M h)
     step M h g = put-on-case Grown M h (λ _. g) (λ _ _. (g .0 ++ (h ∷ []), ap (λ (m : List ℕ). m ++ (h ∷ [])) (g .1) ∙ append-assoc L (g .0) (h ∷ [])))
 
@@ -112,16 +113,28 @@ put-all-known L hs h (inr i) = inr (put-all-in L hs h i)
 
 -- a place of a list with one more is one of before or the last
 
-pub last-or : (L : List ℕ) (g k : ℕ) → k < length (L ++ (g ∷ [])) →
-  ((k < length L) × (getD (L ++ (g ∷ [])) k 0 ≡ getD L k 0)) ⊎ ((k ≡ length L) × (getD (L ++ (g ∷ [])) k 0 ≡ g))
+abbrev pub LastOr : List ℕ → ℕ → ℕ → Type 0
+LastOr L g k = ((k < length L) × (getD (L ++ (g ∷ [])) k 0 ≡ getD L k 0)) ⊎ ((k ≡ length L) × (getD (L ++ (g ∷ [])) k 0 ≡ g))
+
+pub last-or : (L : List ℕ) (g k : ℕ) → k < length (L ++ (g ∷ [])) → LastOr L g k
 last-or L g k l = go (decLt k (length L))
   where
-    go : Dec (k < length L) → ((k < length L) × (getD (L ++ (g ∷ [])) k 0 ≡ getD L k 0)) ⊎ ((k ≡ length L) × (getD (L ++ (g ∷ [])) k 0 ≡ g))
+    go : Dec (k < length L) → LastOr L g k
     go (yes m) = inl (m, List·getD-append L (g ∷ []) 0 k m)
     go (no m) = let e : length L ≡ k = omega (arith, length-append L (g ∷ [])) in inr (sym e, getD-at L g [] 0 k e)
 
-in-last : (L : List ℕ) (g : ℕ) → In g (L ++ (g ∷ []))
+pub in-last : (L : List ℕ) (g : ℕ) → In g (L ++ (g ∷ []))
 in-last L g = (length L, omega (arith, length-append L (g ∷ [])), getD-at L g [] 0 (length L) refl)
+
+pub in-left : (L R : List ℕ) (h : ℕ) → In h L → In h (L ++ R)
+in-left L R h i = (i .0, omega (arith, length-append L R), List·getD-append L R 0 (i .0) (i .1) ∙ i .2)
+
+pub in-or : (L : List ℕ) (g h : ℕ) → In h (L ++ (g ∷ [])) → In h L ⊎ (h ≡ g)
+in-or L g h i = go (last-or L g (i .0) (i .1))
+  where
+    go : LastOr L g (i .0) → In h L ⊎ (h ≡ g)
+    go (inl a) = inl (i .0, a .0, sym (a .1) ∙ i .2)
+    go (inr b) = inr (sym (i .2) ∙ b .1)
 
 -- what was put on is there, and what is there was there or was put on
 
@@ -129,11 +142,7 @@ pub put-on-has : (L : List ℕ) (h : ℕ) → Known (put-on L h) h
 put-on-has L h = put-on-case (λ M. Known M h) L h (λ k. k) (λ _ _. inr (in-last L h))
 
 pub put-on-from : (L : List ℕ) (g h : ℕ) → In h (put-on L g) → In h L ⊎ (h ≡ g)
-put-on-from L g h = put-on-case (λ M. In h M → In h L ⊎ (h ≡ g)) L g (λ _ i. inl i) (λ _ _ i. go i (last-or L g (i .0) (i .1)))
-  where
-    go : (i : In h (L ++ (g ∷ []))) → ((i .0 < length L) × (getD (L ++ (g ∷ [])) (i .0) 0 ≡ getD L (i .0) 0)) ⊎ ((i .0 ≡ length L) × (getD (L ++ (g ∷ [])) (i .0) 0 ≡ g)) → In h L ⊎ (h ≡ g)
-    go i (inl a) = inl (i .0, a .0, sym (a .1) ∙ i .2)
-    go i (inr b) = inr (sym (i .2) ∙ b .1)
+put-on-from L g h = put-on-case (λ M. In h M → In h L ⊎ (h ≡ g)) L g (λ _ i. inl i) (λ _ _. in-or L g h)
 
 pub put-all-has : (L hs : List ℕ) (h : ℕ) → In h hs → Known (put-all L hs) h
 unfolding put-all
@@ -152,6 +161,7 @@ put-all-from L (g ∷ hs) h i = go (put-all-from (put-on L g) hs h i)
     or : In h L ⊎ (h ≡ g) → In h L ⊎ In h (g ∷ hs)
     or (inl a) = inl a
     or (inr e) = inr (0, omega arith, sym e)
+
     go : In h (put-on L g) ⊎ In h hs → In h L ⊎ In h (g ∷ hs)
     go (inl a) = or (put-on-from L g h a)
     go (inr b) = inr (suc (b .0), omega (arith, b .1), b .2)
@@ -159,12 +169,11 @@ put-all-from L (g ∷ hs) h i = go (put-all-from (put-on L g) hs h i)
 -- nothing is there twice, and no zero is put on
 
 put-on-distinct : (L : List ℕ) (h : ℕ) → Distinct L → Distinct (put-on L h)
-put-on-distinct L h d = put-on-case Distinct L h (λ _. d) (λ n out j k l m. go n out j k l m (last-or L h k m))
+put-on-distinct L h d = put-on-case Distinct L h (λ _. d) (λ _ out j k l m. go out j k l m (last-or L h k m))
   where
-    go : h ≢ 0 → (In h L → ⊥) → (j k : ℕ) → j < k → k < length (L ++ (h ∷ [])) →
-      ((k < length L) × (getD (L ++ (h ∷ [])) k 0 ≡ getD L k 0)) ⊎ ((k ≡ length L) × (getD (L ++ (h ∷ [])) k 0 ≡ h)) → getD (L ++ (h ∷ [])) j 0 ≢ getD (L ++ (h ∷ [])) k 0
-    go n out j k l m (inl a) e = d j k l (a .0) (sym (List·getD-append L (h ∷ []) 0 j (omega arith)) ∙ e ∙ a .1)
-    go n out j k l m (inr b) e = out (j, omega arith, sym (List·getD-append L (h ∷ []) 0 j (omega arith)) ∙ e ∙ b .1)
+    go : (In h L → ⊥) → (j k : ℕ) → j < k → k < length (L ++ (h ∷ [])) → LastOr L h k → getD (L ++ (h ∷ [])) j 0 ≢ getD (L ++ (h ∷ [])) k 0
+    go out j k l m (inl a) e = d j k l (a .0) (sym (List·getD-append L (h ∷ []) 0 j (omega arith)) ∙ e ∙ a .1)
+    go out j k l m (inr b) e = out (j, omega arith, sym (List·getD-append L (h ∷ []) 0 j (omega arith)) ∙ e ∙ b .1)
 
 pub put-all-distinct : (L hs : List ℕ) → Distinct L → Distinct (put-all L hs)
 put-all-distinct L hs d = put-all-keeps Distinct put-on-distinct hs L d
