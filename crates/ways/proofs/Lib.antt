@@ -5,3 +5,4 @@ pub mod Listed
 pub mod Count
 pub mod Put
 pub mod Frontier
+pub mod Trace
