@@ -6,3 +6,4 @@ pub mod Count
 pub mod Put
 pub mod Frontier
 pub mod Trace
+pub mod Run

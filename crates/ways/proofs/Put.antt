@@ -9,7 +9,7 @@ use mathlib.Core.List.{List, [], _∷_, _++_, append-assoc, append-nil}
 use native.Mathlib.Omega.{arith}
 use native.Mathlib.Decide.{decLt}
 use lib.ListN.{length, getD, take, length-append, List·getD-append}
-use lib.Seq.{take-append-seam, getD-at}
+use lib.Seq.{take-append-seam, take-suc, getD-at}
 use lib.Dec.{eqb}
 use borrow.Author.Tests.{eqb-true, eqb-false, eq-eqb, ne-eqb}
 use Rattle.model.specs.Ways.{In, listed}
@@ -83,6 +83,10 @@ put-all-append L (x ∷ xs) ys = put-all-append (put-on L x) xs ys
 pub put-all-last : (L hs : List ℕ) (h : ℕ) → put-all L (hs ++ (h ∷ [])) ≡ put-on (put-all L hs) h
 unfolding put-all
 put-all-last L hs h = put-all-append L hs (h ∷ [])
+
+-- the row as far as it has been read, and one handle more
+pub put-all-next : (L hs : List ℕ) (i : ℕ) → i < length hs → put-all L (take (suc i) hs) ≡ put-on (put-all L (take i hs)) (getD hs i 0)
+put-all-next L hs i l = rw (take-suc hs i 0 l) (put-all-last L (take i hs) (getD hs i 0))
 
 -- the list grows at its end
 
