@@ -7,3 +7,4 @@ pub mod Put
 pub mod Frontier
 pub mod Trace
 pub mod Run
+pub mod Examples
