@@ -41,15 +41,17 @@ level-room zero = 64
 level-room (suc zero) = 2
 level-room (suc (suc l)) = 1
 
+-- Word j of a level of so many words and so many bits, of which `set` tells which are 1. "Bits past the end of a level in a used word are 1, so
+-- a padded word can be full. Unused words are 0."
+abbrev pub padded-word : ℕ → ℕ → (ℕ → Bool) → ℕ → ℕ
+padded-word words end set j =
+    let used = word-of-bits (λ b. leb end (32 * j + b) || set (32 * j + b)) in cond (ltb j words) used 0
+
 -- Word j of level l of a segment of class i whose level-0 bits are those of `set`. "A bit above level 0 is 1 exactly if its whole word one
--- level below is ones. Bits past the end of a level in a used word are 1. Unused words are 0."
+-- level below is ones."
 unfoldable pub level-word : ℕ → (ℕ → Bool) → ℕ → ℕ → ℕ
-level-word i set zero j =
-    let used = word-of-bits (λ b. leb (level-end i 0) (32 * j + b) || set (32 * j + b)) in
-    cond (ltb j (level-words i 0)) used 0
-level-word i set (suc l) j =
-    let used = word-of-bits (λ b. let below = full (level-word i set l (32 * j + b)) in leb (level-end i (suc l)) (32 * j + b) || below) in
-    cond (ltb j (level-words i (suc l))) used 0
+level-word i set zero j = padded-word (level-words i 0) (level-end i 0) set j
+level-word i set (suc l) j = padded-word (level-words i (suc l)) (level-end i (suc l)) (λ k. full (level-word i set l k)) j
 
 -- the 67 words of all its levels, and with them the 68 words of its record
 unfoldable pub level-rows : ℕ → (ℕ → Bool) → List ℕ
