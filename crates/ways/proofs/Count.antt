@@ -1,7 +1,7 @@
 -- Distinct handles that all pass a test, each on the number one less, below a bound: they are at most as many as the numbers that pass.
 -- Assumes nothing.
 use Prim.Native.Nat.{ℕ, zero, suc, _+_, _-_, _<_, _≤_}
-use mathlib.Core.Path.{_≡_, refl, sym, _∙_, subst}
+use mathlib.Core.Path.{_≡_, refl, sym, _∙_}
 use mathlib.Core.Logic.{_⊎_, inl, inr, _≢_}
 use mathlib.Core.Bool.{Bool, true, false, cond, true≢false}
 use mathlib.Core.List.{List}
@@ -11,6 +11,7 @@ use lib.Dec.{eqb}
 use borrow.Author.Tests.{eqb-true, eqb-false}
 use Rattle.model.specs.Below.{count-below, one-if}
 use Rattle.model.specs.Ways.{Drawing, Listing}
+use Rattle.ways.proofs.Listed.{Distinct}
 
 -- f 0, .., f (n - 1) are distinct numbers below B that pass p
 record Fits (B : ℕ) (p : ℕ → Bool) (n : ℕ) (f : ℕ → ℕ) : Type 0 where
@@ -75,7 +76,7 @@ pigeonhole (suc B) p (suc n) f c = go (p B) refl (λ e. pigeonhole B p (suc n) f
     go false e r _ = rw e (omega (arith, r e))
 
 -- a list of distinct handles, each of them x + 1 for an x below B that passes p
-pub distinct-count : (L : List ℕ) (B : ℕ) (p : ℕ → Bool) → ((j k : ℕ) → j < k → k < length L → getD L j 0 ≢ getD L k 0) →
+pub distinct-count : (L : List ℕ) (B : ℕ) (p : ℕ → Bool) → Distinct L →
     ((k : ℕ) → k < length L → (x : ℕ) × (x < B) × (getD L k 0 ≡ x + 1) × (p x ≡ true)) → length L ≤ count-below B p
 distinct-count L B p apart at = pigeonhole B p (length L) (λ k. getD L k 0 - 1) (record {
   below = λ k l. let x = at k l in omega (arith, x);

@@ -1,17 +1,17 @@
 -- The definitions tried on small drawings: the collections of document 01's run, and roots with zeros and doubles over a ring with a shared block.
 -- Assumes nothing.
-use Prim.Native.Nat.{ℕ, zero, suc, _+_, _<_, _≤_}
-use mathlib.Core.Path.{_≡_, refl, sym, _∙_, ap, subst}
-use mathlib.Core.Bool.{Bool, true, false, cond}
-use mathlib.Core.List.{List, [], _∷_, _++_}
+use Prim.Native.Nat.{ℕ}
+use mathlib.Core.Path.{_≡_, refl, ap}
+use mathlib.Core.Bool.{cond}
+use mathlib.Core.List.{List, [], _∷_}
 use native.Mathlib.Omega.{arith}
 use lib.ListN.{length, getD, List·getD-eq-default}
 use lib.Dec.{eqb}
-use Rattle.model.specs.Below.{words-below, lists-below}
+use Rattle.model.specs.Below.{lists-below}
 use Rattle.model.specs.Ways.{Drawing, Listing, listed}
 use Rattle.ways.proofs.Listing.{listing-unique}
 use Rattle.ways.proofs.Put.{put-on, put-all}
-use Rattle.ways.proofs.Trace.{Inv, Bounded, start, advance, traced}
+use Rattle.ways.proofs.Trace.{Bounded, start, advance, traced}
 use Rattle.ways.proofs.Run.{advance-run}
 
 -- a drawing by a table: a handle's fields, none for a handle that is not there

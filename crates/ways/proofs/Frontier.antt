@@ -1,16 +1,17 @@
 -- The list so far, at a way u: all that ways earlier than u lead to, each block by its first way, in order. To put on what u itself leads to,
 -- unless it is 0 or there already, takes u on to the next way.
 -- Assumes nothing.
-use Prim.Native.Nat.{ℕ, zero, suc, _<_}
+use Prim.Native.Nat.{ℕ, suc, _<_}
 use mathlib.Core.Path.{_≡_, refl, sym, _∙_, ap, subst}
 use mathlib.Core.Logic.{_⊎_, inl, inr, _≢_}
 use mathlib.Core.List.{List, [], _∷_, _++_}
 use native.Mathlib.Omega.{arith}
 use lib.ListN.{length, getD, List·getD-append}
 use Rattle.model.specs.Ways.{Way, root, step, Earlier, Drawing, leads, Before, In}
-use Rattle.ways.proofs.Order.{Sooner, order-of-two, earlier-sooner, sooner-earlier, earlier-trans, earlier-step, earlier-field, earlier-root, earlier-roots}
+use Rattle.ways.proofs.Order.{Compared, Sooner, compared, earlier-sooner, sooner-earlier, earlier-trans, earlier-step, earlier-field, earlier-root, earlier-roots}
 use Rattle.ways.proofs.Least.{First, before-iff}
-use Rattle.ways.proofs.Put.{put-on, put-on-case, Known, LastOr, last-or, in-left, in-last, in-or}
+use Rattle.ways.proofs.Listed.{LastOr, last-or, in-left, in-last, in-or}
+use Rattle.ways.proofs.Put.{put-on, put-on-case, Known}
 
 pub record Upto (D : Drawing) (L : List ℕ) (u : Way) : Type 0 where
   pub blocks : In 0 L → ⊥
@@ -27,9 +28,9 @@ pub next-root : (p : ℕ) → Next (root p) (root (suc p))
 next-root p = record { up = earlier-roots p (suc p) (omega arith); between = λ v l. go v (earlier-sooner v (root (suc p)) l) }
   where
     go : (v : Way) → Sooner v (root (suc p)) → Earlier v (root p) ⊎ (v ≡ root p)
-    go (root q) l = or (order-of-two q p)
+    go (root q) l = or (compared q p)
       where
-        or : (q < p) ⊎ ((q ≡ p) ⊎ (p < q)) → Earlier (root q) (root p) ⊎ (root q ≡ root p)
+        or : Compared _<_ q p → Earlier (root q) (root p) ⊎ (root q ≡ root p)
         or (inl m) = inl (earlier-roots q p m)
         or (inr (inl e)) = inr (ap root e)
         or (inr (inr m)) = absurd (omega arith)
@@ -41,9 +42,9 @@ next-field w f = record { up = earlier-field w f (suc f) (omega arith); between 
     go : (v : Way) → Sooner v (step w (suc f)) → Earlier v (step w f) ⊎ (v ≡ step w f)
     go (root q) l = inl (earlier-root q w f)
     go (step v g) (inl l) = inl (earlier-step v w g f (sooner-earlier v w l))
-    go (step v g) (inr h) = or (order-of-two g f)
+    go (step v g) (inr h) = or (compared g f)
       where
-        or : (g < f) ⊎ ((g ≡ f) ⊎ (f < g)) → Earlier (step v g) (step w f) ⊎ (step v g ≡ step w f)
+        or : Compared _<_ g f → Earlier (step v g) (step w f) ⊎ (step v g ≡ step w f)
         or (inl m) = inl (subst (λ (x : Way). Earlier (step x g) (step w f)) (sym (h .0)) (earlier-field w g f m))
         or (inr (inl e)) = inr (cc (h .0))
         or (inr (inr m)) = absurd (omega (arith, h .1))

@@ -1,10 +1,10 @@
 -- The first way to a block: there is at most one, and of two blocks the one with the earlier first way comes before the other.
 -- Assumes nothing.
 use Prim.Native.Nat.{ℕ}
-use mathlib.Core.Path.{_≡_, refl, sym, subst}
+use mathlib.Core.Path.{_≡_, sym, subst}
 use mathlib.Core.Logic.{_⊎_, inl, inr, _↔_}
 use Rattle.model.specs.Ways.{Way, Earlier, Drawing, leads, Before}
-use Rattle.ways.proofs.Order.{earlier-or, earlier-trans}
+use Rattle.ways.proofs.Order.{Compared, earlier-or, earlier-trans}
 
 -- w leads to h, and no way to h is earlier
 pub record First (D : Drawing) (w : Way) (h : ℕ) : Type 0 where
@@ -16,7 +16,7 @@ module _ {D : Drawing} where
   pub first-or : {w : Way} {h : ℕ} → First D w h → (v : Way) → leads D v ≡ h → (w ≡ v) ⊎ Earlier w v
   first-or {w} {h} a v e = go (earlier-or w v)
     where
-      go : Earlier w v ⊎ ((w ≡ v) ⊎ Earlier v w) → (w ≡ v) ⊎ Earlier w v
+      go : Compared Earlier w v → (w ≡ v) ⊎ Earlier w v
       go (inl l) = inr l
       go (inr (inl s)) = inl s
       go (inr (inr l)) = absurd (a .least v e l)

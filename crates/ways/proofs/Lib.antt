@@ -7,4 +7,6 @@ pub mod Put
 pub mod Frontier
 pub mod Trace
 pub mod Run
+pub mod Reach
+pub mod Arena
 pub mod Examples

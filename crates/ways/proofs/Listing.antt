@@ -4,13 +4,13 @@
 -- Assumes nothing.
 use Prim.Native.Nat.{ℕ, zero, suc, _<_, _≤_}
 use mathlib.Core.Path.{_≡_, refl, sym, _∙_, ap, subst}
-use mathlib.Core.Logic.{_⊎_, inl, inr, _↔_, _≢_}
+use mathlib.Core.Logic.{inl, inr, _↔_, _≢_}
 use mathlib.Core.List.{List}
 use native.Mathlib.Omega.{arith}
 use lib.ListN.{length, getD}
 use lib.Seq.{ext-getD}
 use Rattle.model.specs.Ways.{Way, Earlier, Drawing, leads, Before, Listing}
-use Rattle.ways.proofs.Order.{order-of-two, earlier-asym, earlier-irrefl}
+use Rattle.ways.proofs.Order.{Compared, compared, earlier-asym, earlier-irrefl}
 
 -- every way leads to a block in both or in neither, and two ways meet in one block in both or in neither
 pub record Alike (D E : Drawing) : Type 0 where
@@ -61,7 +61,7 @@ module _ {D E : Drawing} {L M : List ℕ} (s : Alike D E) (a : Listing D L) (b :
 
   rising : (j k i m : ℕ) → j < k → k < length L → i < length M → m < length M → SameWays D (getD L j 0) E (getD M i 0) →
       SameWays D (getD L k 0) E (getD M m 0) → i < m
-  rising j k i m l lk li lm p q = go (order-of-two i m)
+  rising j k i m l lk li lm p q = go (compared i m)
     where
       c : Before D (getD L j 0) (getD L k 0)
       c = a .order j k l lk
@@ -76,7 +76,7 @@ module _ {D E : Drawing} {L M : List ℕ} (s : Alike D E) (a : Listing D L) (b :
       v-least : (w : Way) → leads E w ≡ getD M m 0 → Earlier v w
       v-least w h = c .2 w (q w .1 h)
 
-      go : (i < m) ⊎ ((i ≡ m) ⊎ (m < i)) → i < m
+      go : Compared _<_ i m → i < m
       go (inl r) = r
       go (inr (inl r)) = absurd (earlier-irrefl v (v-least v (v-there ∙ ap (λ (x : ℕ). getD M x 0) r)))
       go (inr (inr r)) = let d : Before E (getD M m 0) (getD M i 0) = b .order m i r li in
@@ -128,13 +128,13 @@ same-place {D} {E} {L} {M} s a b k l = subst (λ (x : ℕ). SameWays D (getD L k
     one-block : getD L k 0 ≡ getD L (i .0) 0
     one-block = sym e ∙ i .2 u .0 (m .2 u .0 e)
 
-    go : (k < i .0) ⊎ ((k ≡ i .0) ⊎ (i .0 < k)) → k ≡ i .0
+    go : Compared _<_ k (i .0) → k ≡ i .0
     go (inl r) = absurd (a .once k (i .0) r (i .1) one-block)
     go (inr (inl r)) = r
     go (inr (inr r)) = absurd (a .once (i .0) k r l (sym one-block))
 
     m-is-k : m .0 ≡ k
-    m-is-k = omega (arith, up, back, go (order-of-two k (i .0)))
+    m-is-k = omega (arith, up, back, go (compared k (i .0)))
 
 -- same drawing
 pub same-drawing : {D E : Drawing} {L M : List ℕ} → Alike D E → Listing D L → Listing E M → Agree D E L M

@@ -1,13 +1,13 @@
 -- The order of demand 3 on ways. `Sooner` is the order by recursion on both ways; it is the plain order `Earlier` (fewest steps first, then the
 -- positions where they first differ). The order is strict and total, and a step more keeps it.
 -- Assumes nothing.
-use Prim.Native.Nat.{ℕ, zero, suc, _<_}
+use Prim.Native.Nat.{ℕ, _<_}
 use mathlib.Core.Path.{_≡_, refl, sym, _∙_, ap, subst}
-use mathlib.Core.Logic.{_⊎_, inl, inr, _≢_}
+use mathlib.Core.Logic.{_⊎_, inl, inr}
 use mathlib.Core.List.{List, [], _∷_, _++_}
 use native.Mathlib.Omega.{arith}
 use native.Mathlib.Decide.{decLt}
-use Rattle.model.specs.Ways.{Way, root, step, steps, positions, Smaller, Earlier}
+use Rattle.model.specs.Ways.{Way, root, step, positions, Smaller, Earlier}
 
 -- two roots by position; a root before any longer way; of two longer ways the one whose shorter part comes first, or with one shorter part
 -- the one with the smaller field
@@ -17,28 +17,30 @@ Sooner (root p) (step w g) = Unit {0}
 Sooner (step v f) (root q) = ⊥
 Sooner (step v f) (step w g) = Sooner v w ⊎ ((v ≡ w) × (f < g))
 
--- of two numbers
-pub order-of-two : (m n : ℕ) → (m < n) ⊎ ((m ≡ n) ⊎ (n < m))
-order-of-two m n = go (decLt m n) (decLt n m)
+-- of two things one comes before the other, or they are one thing
+abbrev pub Compared : {A : Type 0} → (A → A → Type 0) → A → A → Type 0
+Compared R a b = R a b ⊎ ((a ≡ b) ⊎ R b a)
+
+pub compared : (m n : ℕ) → Compared _<_ m n
+compared m n = go (decLt m n) (decLt n m)
   where
-    go : Dec (m < n) → Dec (n < m) → (m < n) ⊎ ((m ≡ n) ⊎ (n < m))
+    go : Dec (m < n) → Dec (n < m) → Compared _<_ m n
     go (yes l) d = inl l
     go (no l) (yes g) = inr (inr g)
     go (no l) (no g) = inr (inl (omega arith))
 
--- of two ways one is sooner, or they are one way
-pub sooner-or : (v w : Way) → Sooner v w ⊎ ((v ≡ w) ⊎ Sooner w v)
-sooner-or (root p) (root q) = go (order-of-two p q)
+sooner-or : (v w : Way) → Compared Sooner v w
+sooner-or (root p) (root q) = go (compared p q)
   where
-    go : (p < q) ⊎ ((p ≡ q) ⊎ (q < p)) → (p < q) ⊎ ((root p ≡ root q) ⊎ (q < p))
+    go : Compared _<_ p q → Compared Sooner (root p) (root q)
     go (inl l) = inl l
     go (inr (inl e)) = inr (inl (ap root e))
     go (inr (inr g)) = inr (inr g)
 sooner-or (root p) (step w g) = inl tt
 sooner-or (step v f) (root q) = inr (inr tt)
-sooner-or (step v f) (step w g) = go (sooner-or v w) (order-of-two f g)
+sooner-or (step v f) (step w g) = go (sooner-or v w) (compared f g)
   where
-    go : Sooner v w ⊎ ((v ≡ w) ⊎ Sooner w v) → (f < g) ⊎ ((f ≡ g) ⊎ (g < f)) → Sooner (step v f) (step w g) ⊎ ((step v f ≡ step w g) ⊎ Sooner (step w g) (step v f))
+    go : Compared Sooner v w → Compared _<_ f g → Compared Sooner (step v f) (step w g)
     go (inl l) c = inl (inl l)
     go (inr (inl e)) (inl l) = inl (inr (e, l))
     go (inr (inl e)) (inr (inl k)) = inr (inl (cc))
@@ -93,16 +95,16 @@ sooner-earlier (step v f) (step w g) (inr h) = subst (λ (u : Way). Earlier (ste
 pub earlier-sooner : (v w : Way) → Earlier v w → Sooner v w
 earlier-sooner v w h = go (sooner-or v w)
   where
-    go : Sooner v w ⊎ ((v ≡ w) ⊎ Sooner w v) → Sooner v w
+    go : Compared Sooner v w → Sooner v w
     go (inl l) = l
     go (inr (inl e)) = absurd (earlier-irrefl w (subst (λ (u : Way). Earlier u w) e h))
     go (inr (inr l)) = absurd (earlier-asym v w h (sooner-earlier w v l))
 
--- of two ways one is earlier, or they are one way
-pub earlier-or : (v w : Way) → Earlier v w ⊎ ((v ≡ w) ⊎ Earlier w v)
+-- the order is total
+pub earlier-or : (v w : Way) → Compared Earlier v w
 earlier-or v w = go (sooner-or v w)
   where
-    go : Sooner v w ⊎ ((v ≡ w) ⊎ Sooner w v) → Earlier v w ⊎ ((v ≡ w) ⊎ Earlier w v)
+    go : Compared Sooner v w → Compared Earlier v w
     go (inl l) = inl (sooner-earlier v w l)
     go (inr (inl e)) = inr (inl e)
     go (inr (inr l)) = inr (inr (sooner-earlier w v l))

@@ -7,13 +7,12 @@ use mathlib.Core.Logic.{_⊎_, inl, inr, _≢_}
 use mathlib.Core.Bool.{Bool, true, false, cond, _||_, true≢false}
 use mathlib.Core.List.{List, [], _∷_, _++_, append-assoc, append-nil}
 use native.Mathlib.Omega.{arith}
-use native.Mathlib.Decide.{decLt}
 use lib.ListN.{length, getD, take, length-append, List·getD-append}
-use lib.Seq.{take-append-seam, take-suc, getD-at}
+use lib.Seq.{take-append-seam, take-suc}
 use lib.Dec.{eqb}
 use borrow.Author.Tests.{eqb-true, eqb-false, eq-eqb, ne-eqb}
 use Rattle.model.specs.Ways.{In, listed}
-use Rattle.ways.proofs.Listed.{listed-in, in-listed}
+use Rattle.ways.proofs.Listed.{Distinct, listed-in, in-listed, LastOr, last-or, in-last, in-or}
 
 -- h on the list's end, unless it is 0 or there already
 unfoldable pub put-on : List ℕ → ℕ → List ℕ
@@ -27,10 +26,6 @@ put-all L (h ∷ hs) = put-all (put-on L h) hs
 -- 0 or there already
 abbrev pub Known : List ℕ → ℕ → Type 0
 Known L h = (h ≡ 0) ⊎ In h L
-
--- no handle stands there twice
-abbrev pub Distinct : List ℕ → Type 0
-Distinct L = (j k : ℕ) → j < k → k < length L → getD L j 0 ≢ getD L k 0
 
 -- what one handle does
 
@@ -115,31 +110,6 @@ pub put-all-known : (L hs : List ℕ) (h : ℕ) → Known L h → Known (put-all
 put-all-known L hs h (inl z) = inl z
 put-all-known L hs h (inr i) = inr (put-all-in L hs h i)
 
--- a place of a list with one more is one of before or the last
-
-abbrev pub LastOr : List ℕ → ℕ → ℕ → Type 0
-LastOr L g k = ((k < length L) × (getD (L ++ (g ∷ [])) k 0 ≡ getD L k 0)) ⊎ ((k ≡ length L) × (getD (L ++ (g ∷ [])) k 0 ≡ g))
-
-pub last-or : (L : List ℕ) (g k : ℕ) → k < length (L ++ (g ∷ [])) → LastOr L g k
-last-or L g k l = go (decLt k (length L))
-  where
-    go : Dec (k < length L) → LastOr L g k
-    go (yes m) = inl (m, List·getD-append L (g ∷ []) 0 k m)
-    go (no m) = let e : length L ≡ k = omega (arith, length-append L (g ∷ [])) in inr (sym e, getD-at L g [] 0 k e)
-
-pub in-last : (L : List ℕ) (g : ℕ) → In g (L ++ (g ∷ []))
-in-last L g = (length L, omega (arith, length-append L (g ∷ [])), getD-at L g [] 0 (length L) refl)
-
-pub in-left : (L R : List ℕ) (h : ℕ) → In h L → In h (L ++ R)
-in-left L R h i = (i .0, omega (arith, length-append L R), List·getD-append L R 0 (i .0) (i .1) ∙ i .2)
-
-pub in-or : (L : List ℕ) (g h : ℕ) → In h (L ++ (g ∷ [])) → In h L ⊎ (h ≡ g)
-in-or L g h i = go (last-or L g (i .0) (i .1))
-  where
-    go : LastOr L g (i .0) → In h L ⊎ (h ≡ g)
-    go (inl a) = inl (i .0, a .0, sym (a .1) ∙ i .2)
-    go (inr b) = inr (sym (i .2) ∙ b .1)
-
 -- what was put on is there, and what is there was there or was put on
 
 pub put-on-has : (L : List ℕ) (h : ℕ) → Known (put-on L h) h
@@ -182,7 +152,10 @@ put-on-distinct L h d = put-on-case Distinct L h (λ _. d) (λ _ out j k l m. go
 pub put-all-distinct : (L hs : List ℕ) → Distinct L → Distinct (put-all L hs)
 put-all-distinct L hs d = put-all-keeps Distinct put-on-distinct hs L d
 
+put-on-length-le : (L : List ℕ) (h : ℕ) → length (put-on L h) ≤ length L + 1
+put-on-length-le L h = put-on-case (λ M. length M ≤ length L + 1) L h (λ _. omega arith) (λ _ _. omega (arith, length-append L (h ∷ [])))
+
 pub put-all-length-le : (L hs : List ℕ) → length (put-all L hs) ≤ length L + length hs
 unfolding put-all
 put-all-length-le L [] = omega arith
-put-all-length-le L (h ∷ hs) = omega (arith, put-all-length-le (put-on L h) hs, put-on-case (λ M. length M ≤ length L + 1) L h (λ _. omega arith) (λ _ _. omega (arith, length-append L (h ∷ []))))
+put-all-length-le L (h ∷ hs) = omega (arith, put-all-length-le (put-on L h) hs, put-on-length-le L h)

@@ -2,7 +2,7 @@
 -- Assumes nothing.
 use Prim.Native.Nat.{ℕ, zero, suc, _+_, _<_, _≤_}
 use mathlib.Core.Path.{_≡_, refl, sym, _∙_, ap, subst}
-use mathlib.Core.List.{List, [], _∷_, _++_}
+use mathlib.Core.List.{List, _++_}
 use native.Mathlib.Omega.{arith}
 use native.Mathlib.Nat.{add-zero}
 use lib.ListN.{length, getD}
@@ -30,7 +30,9 @@ run-suc : (F : ℕ → List ℕ) (L : List ℕ) (q n : ℕ) → q + n < length L
     let M = put-all L (gathered F L q n) in put-all M (F (getD M (q + n) 0)) ≡ put-all L (gathered F L q (suc n))
 run-suc F L q n l =
     let M = put-all L (gathered F L q n) in
-    ap (λ (h : ℕ). put-all M (F h)) (put-all-at L (gathered F L q n) (q + n) l) ∙ sym (put-all-append L (gathered F L q n) (F (getD L (q + n) 0))) ∙ ap (λ (hs : List ℕ). put-all L hs) (sym (gathered-suc F L q n))
+    ap (λ (h : ℕ). put-all M (F h)) (put-all-at L (gathered F L q n) (q + n) l)
+    ∙ sym (put-all-append L (gathered F L q n) (F (getD L (q + n) 0)))
+    ∙ ap (λ (hs : List ℕ). put-all L hs) (sym (gathered-suc F L q n))
 
 pub heads-run : (F : ℕ → List ℕ) (L : List ℕ) (q n : ℕ) → q + n ≤ length L → heads F L q n ≡ put-all L (gathered F L q n)
 unfolding heads lists-below put-all

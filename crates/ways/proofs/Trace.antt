@@ -4,17 +4,19 @@
 -- Assumes nothing.
 use Prim.Native.Nat.{ℕ, zero, suc, _+_, _<_, _≤_}
 use mathlib.Core.Path.{_≡_, refl, sym, _∙_, ap, subst}
-use mathlib.Core.Logic.{_⊎_, inl, inr, _≢_}
-use mathlib.Core.List.{List, [], _∷_, _++_}
+use mathlib.Core.Logic.{_⊎_, inl, inr}
+use mathlib.Core.List.{List, []}
 use native.Mathlib.Omega.{arith}
 use native.Mathlib.Decide.{decLt}
 use lib.ListN.{length, getD, take, List·getD-eq-default}
 use lib.Seq.{take-suc, take-length}
 use Rattle.model.specs.Below.{words-below, lists-below}
 use Rattle.model.specs.Ways.{Way, root, step, Earlier, Drawing, leads, Reachable, Before, In, Listing}
-use Rattle.ways.proofs.Order.{Sooner, order-of-two, earlier-sooner, sooner-earlier, earlier-irrefl, earlier-asym, earlier-trans, earlier-step, earlier-field, earlier-roots, earlier-root, earlier-shorter}
+use Rattle.ways.proofs.Order.{Compared, Sooner, compared, earlier-sooner, sooner-earlier, earlier-irrefl, earlier-asym}
+use Rattle.ways.proofs.Order.{earlier-trans, earlier-step, earlier-field, earlier-roots, earlier-root, earlier-shorter}
 use Rattle.ways.proofs.Least.{First, first-unique, first-below, before-iff}
-use Rattle.ways.proofs.Put.{put-all, put-all-last, put-all-append, put-all-at, put-all-length, Known, Distinct}
+use Rattle.ways.proofs.Listed.{Distinct}
+use Rattle.ways.proofs.Put.{put-all, put-all-last, put-all-at, put-all-length, Known}
 use Rattle.ways.proofs.Frontier.{Upto, next-root, next-field, put-next}
 
 -- the list at the head q: each of its blocks has a first way, and the blocks stand by these; all roots, and all fields of the blocks before the
@@ -35,9 +37,9 @@ fields D arity h = words-below (arity h) (D .refers h)
 -- the places of two blocks by their first ways
 place-below : {D : Drawing} (L : List ℕ) → ((j k : ℕ) → j < k → k < length L → Before D (getD L j 0) (getD L k 0)) → (j k : ℕ) →
     j < length L → (v w : Way) → First D v (getD L j 0) → First D w (getD L k 0) → Earlier v w → j < k
-place-below {D} L rises j k lj v w a b l = go (order-of-two j k)
+place-below {D} L rises j k lj v w a b l = go (compared j k)
   where
-    go : (j < k) ⊎ ((j ≡ k) ⊎ (k < j)) → j < k
+    go : Compared _<_ j k → j < k
     go (inl m) = m
     go (inr (inl e)) = absurd (earlier-irrefl w (subst (λ (x : Way). Earlier x w) (first-unique a (subst (λ (x : ℕ). First D w (getD L x 0)) (sym e) b)) l))
     go (inr (inr m)) = absurd (earlier-asym v w l (before-iff b a .0 (rises k j m lj)))
@@ -96,7 +98,8 @@ pub record Bounded (D : Drawing) (arity : ℕ → ℕ) : Type 0 where
 
 module _ {D : Drawing} {arity : ℕ → ℕ} (b : Bounded D arity) where
   -- a field of 0 or of a block all of whose fields are known
-  next-known : (L : List ℕ) (q : ℕ) → ((k f : ℕ) → k < q → Known L (D .refers (getD L k 0) f)) → (h f : ℕ) → (h ≡ 0) ⊎ ((k : ℕ) × (k < q) × (getD L k 0 ≡ h)) → Known L (D .refers h f)
+  next-known : (L : List ℕ) (q : ℕ) → ((k f : ℕ) → k < q → Known L (D .refers (getD L k 0) f)) → (h f : ℕ) →
+      (h ≡ 0) ⊎ ((k : ℕ) × (k < q) × (getD L k 0 ≡ h)) → Known L (D .refers h f)
   next-known L q c h f (inl z) = inl (ap (λ (x : ℕ). D .refers x f) z ∙ b .nowhere f)
   next-known L q c h f (inr i) = subst (λ (x : ℕ). Known L (D .refers x f)) (i .2) (c (i .0) f (i .1))
 
@@ -155,7 +158,7 @@ module _ {D : Drawing} {arity : ℕ → ℕ} (b : Bounded D arity) where
     near = λ g i m v t e d. earlier-trans v (step w (arity h)) (step t 0) (upto-near c g i v e)
         (earlier-step w t (arity h) 0 (before-iff here d .0 (c .rises q (q + 1) (omega arith) m)));
     roots-known = λ p. c .known (root p) (earlier-root p w (arity h));
-    fields-known = λ k f m. known k f m (order-of-two k q);
+    fields-known = λ k f m. known k f m (compared k q);
   }
     where
       here : First D w (getD L q 0)
@@ -165,7 +168,7 @@ module _ {D : Drawing} {arity : ℕ → ℕ} (b : Bounded D arity) where
       own f (yes m) = subst (λ (x : ℕ). Known L (D .refers x f)) (a .there) (c .known (step w f) (earlier-field w f (arity h) m))
       own f (no m) = inl (b .beyond h f (omega arith))
 
-      known : (k f : ℕ) → k < q + 1 → (k < q) ⊎ ((k ≡ q) ⊎ (q < k)) → Known L (D .refers (getD L k 0) f)
+      known : (k f : ℕ) → k < q + 1 → Compared _<_ k q → Known L (D .refers (getD L k 0) f)
       known k f m (inl lk) =
           let v = c .near (getD L k 0) (k, omega arith, refl) in
           let up : Earlier (v .0) w = before-iff (v .1) here .0 (c .rises k q lk l) in
