@@ -152,6 +152,13 @@ put-on-distinct L h d = put-on-case Distinct L h (λ _. d) (λ _ out j k l m. go
 pub put-all-distinct : (L hs : List ℕ) → Distinct L → Distinct (put-all L hs)
 put-all-distinct L hs d = put-all-keeps Distinct put-on-distinct hs L d
 
+pub put-all-blocks : (L hs : List ℕ) → (In 0 L → ⊥) → In 0 (put-all L hs) → ⊥
+put-all-blocks L hs b = put-all-keeps (λ M. In 0 M → ⊥) (λ M h n i. go M h n (put-on-from M h 0 i) i) hs L b
+  where
+    go : (M : List ℕ) (h : ℕ) → (In 0 M → ⊥) → In 0 M ⊎ (0 ≡ h) → In 0 (put-on M h) → ⊥
+    go M h n (inl i) _ = n i
+    go M h n (inr e) i = n (subst (λ (N : List ℕ). In 0 N) (put-on-known M h (inl (sym e))) i)
+
 put-on-length-le : (L : List ℕ) (h : ℕ) → length (put-on L h) ≤ length L + 1
 put-on-length-le L h = put-on-case (λ M. length M ≤ length L + 1) L h (λ _. omega arith) (λ _ _. omega (arith, length-append L (h ∷ [])))
 
