@@ -1,3 +1,4 @@
 pub mod Tests
 pub mod Facts
 pub mod Ranks
+pub mod Taken
