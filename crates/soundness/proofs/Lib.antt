@@ -3,3 +3,4 @@ pub mod Facts
 pub mod Ranks
 pub mod Taken
 pub mod Views
+pub mod Writes
