@@ -1,0 +1,1 @@
+// Laws of the model's own definitions, for every crate that proves something of them: no functions.
