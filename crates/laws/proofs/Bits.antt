@@ -10,7 +10,7 @@ use native.Mathlib.Numerals.{add-one, one-add}
 use lib.Dec.{eqb, eqb·suc-suc, eqb·suc-zero, eqb·zero-suc}
 use lib.Pow.{pow-pos, pow-mono, pow-lt, shr-shr, shr-le, high, low, field, mod-mod-pow, mod-pow-add}
 use lib.Arith.{digits-lt}
-use lib.Bits.{bitAnd, bitOr, and-step, or-step, and-shr, or-shr, or-lt}
+use lib.Bits.{bitAnd, bitOr, and-step, or-step, and-shr, or-shr, or-lt, and-mask}
 use lib.Count.{trailingZeros, under, ones-cat}
 use borrow.Author.Tests.{eq-eqb, ne-eqb, eqb-true}
 use Rattle.model.specs.Below.{one-if, all-below, count-below, sum-below, first-from}
@@ -142,12 +142,20 @@ bit-pow zero (suc j) = bit-suc 1 j ∙ bit-zero j ∙ sym (eqb·suc-zero j)
 bit-pow (suc b) zero = rw (bit-low, pow-suc, mul-mod-left, eqb·zero-suc b)
 bit-pow (suc b) (suc j) = rw (bit-suc, pow-suc, mul-div-cancel (2 ^ b) (pow-pos 1), eqb·suc-suc) (bit-pow b j)
 
+-- `1 << b`
+pub shl-one : (b : ℕ) → b < 32 → 1 * 2 ^ b % 2 ^ 32 ≡ 2 ^ b
+shl-one b h = rw one-mul (mod-eq-of-lt (pow-lt h))
+
 -- `w | (1 << b)`
 pub bit-or-shift : (w b j : ℕ) → b < 32 → bit (bitOr w (1 * 2 ^ b % 2 ^ 32)) j ≡ (eqb j b || bit w j)
-bit-or-shift w b j h = rw (one-mul, mod-eq-of-lt (pow-lt h), bit-or, bit-pow, or-comm (bit w j))
+bit-or-shift w b j h = rw (shl-one b h, bit-or, bit-pow, or-comm (bit w j))
 
 pub or-shift-lt : (w b : ℕ) → w < 2 ^ 32 → bitOr w (1 * 2 ^ b % 2 ^ 32) < 2 ^ 32
 or-shift-lt w b h = or-lt 32 w (1 * 2 ^ b % 2 ^ 32) h (mod-lt (1 * 2 ^ b) (pow-pos 32))
+
+-- `w & ((1 << k) - 1)`
+pub and-low : (w k : ℕ) → k < 32 → bitAnd w (1 * 2 ^ k % 2 ^ 32 - 1) ≡ w % 2 ^ k
+and-low w k h = rw (shl-one k h) (and-mask w k)
 
 -- `!w`
 flip : (x y : ℕ) → x % 2 ≡ 1 - y % 2 → eqb (x % 2) 1 ≡ not (eqb (y % 2) 1)

@@ -1,2 +1,3 @@
+pub mod Splice
 pub mod Below
 pub mod Bits
