@@ -1,2 +1,4 @@
 pub mod Levels
 pub mod Climb
+pub mod Record
+pub mod Search
