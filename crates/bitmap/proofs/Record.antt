@@ -12,14 +12,14 @@ use lib.Dec.{eqb, leb}
 use borrow.Author.Tests.{eq-eqb, eqb-true, lt-leb}
 use Rattle.model.specs.Below.{all-below, words-below}
 use Rattle.model.specs.Word.{word, bit}
-use Rattle.model.specs.Class.{is-class, blocks, level-words, level-end}
+use Rattle.model.specs.Class.{is-class, blocks, level-words, level-end, levels}
 use Rattle.model.specs.Layout.{level-at, level-room, level-word, level-rows}
 use Rattle.model.specs.View.{bit-in}
 use Rattle.model.specs.Sound.{levels-right}
 use Rattle.laws.proofs.Below.{all-below-at, all-below-intro, length-words-below, word-words-below, words-below-ext}
-use Rattle.bitmap.specs.Tree.{level-bit}
+use Rattle.bitmap.specs.Tree.{SetBit, level-bit, climbed}
 use Rattle.bitmap.proofs.Levels.{level-set, used-level, levels-pos, level-word-is, level-ext, padded-bit, words-hold, words-room, level-inside}
-use Rattle.bitmap.proofs.Climb.{Level}
+use Rattle.bitmap.proofs.Climb.{Level, climbed-length, climbed-head, climbed-right}
 
 -- ---- the words of a record that is made of a head and a set
 
@@ -134,3 +134,21 @@ pub determined : (i : ℕ) (rec other : List ℕ) → length rec ≡ 68 → leng
     → word rec 0 ≡ word other 0 → ((k : ℕ) → k < blocks i → bit-in rec k ≡ bit-in other k) → rec ≡ other
 determined i rec other long long' right right' head bits =
     right-is i rec long right ∙ ap₂ _∷_ head (rows-ext i (bit-in rec) (bit-in other) bits) ∙ sym (right-is i other long' right')
+
+-- ---- setting a bit
+
+pub set-bit-is : (rec : List ℕ) (i k : ℕ) → SetBit rec i k
+    → climbed (levels i - 1) 0 k rec ≡ word rec 0 ∷ level-rows i (λ j. eqb j k || bit-in rec j)
+unfolding level-end
+set-bit-is rec i k s =
+    record-is (climbed (levels i - 1) 0 k rec) (word rec 0) i (λ j. eqb j k || bit-in rec j)
+    (climbed-length (levels i - 1) 0 k rec ∙ s .long) (climbed-head (levels i - 1) 0 k rec)
+    (climbed-right i (bit-in rec) (λ j. eqb j k || bit-in rec j) (s .class) (levels i - 1) 0 k rec (omega (arith, levels-pos i (s .class)))
+    (record {
+      long = s .long;
+      below = λ m h. absurd (omega arith);
+      above = λ m _ h. right-level i rec (s .right) m h;
+      used = λ _. used-level i 0 (s .class) (levels-pos i (s .class));
+      inside = λ _. s .block;
+      more = λ x _. refl
+    }))
