@@ -1,4 +1,4 @@
-pub mod Levels
-pub mod Climb
-pub mod Record
-pub mod Search
+pub mod LevelLaws
+pub mod ClimbLaws
+pub mod RecordLaws
+pub mod SearchLaws

@@ -18,8 +18,8 @@ use Rattle.model.specs.View.{bit-in}
 use Rattle.model.specs.Sound.{levels-right}
 use Rattle.laws.proofs.Below.{all-below-at, all-below-intro, length-words-below, word-words-below, words-below-ext}
 use Rattle.bitmap.specs.Tree.{SetBit, level-bit, climbed}
-use Rattle.bitmap.proofs.Levels.{level-set, used-level, levels-pos, level-word-is, level-ext, padded-bit, words-hold, words-room, level-inside}
-use Rattle.bitmap.proofs.Climb.{Level, climbed-length, climbed-head, climbed-right}
+use Rattle.bitmap.proofs.LevelLaws.{level-set, used-level, levels-pos, level-word-is, level-ext, padded-bit, words-hold, words-room, level-inside}
+use Rattle.bitmap.proofs.ClimbLaws.{Level, climbed-length, climbed-head, climbed-right}
 
 -- ---- the words of a record that is made of a head and a set
 

@@ -17,7 +17,7 @@ use Rattle.model.specs.Class.{is-class, level-words, level-end, levels}
 use Rattle.model.specs.Layout.{level-at, level-room, padded-word, level-word}
 use Rattle.laws.proofs.Bits.{bit-word-of-bits, full-bit, full-of-bits}
 use Rattle.bitmap.specs.Tree.{with-level-bit, climbed}
-use Rattle.bitmap.proofs.Levels.{level-set, level-word-is, level-word-lt, level-ext, unused-above, unused-word, level-inside, levels-apart, words-room, words-hold, levels-le, used-level, unused-level, padded-more, padded-other}
+use Rattle.bitmap.proofs.LevelLaws.{level-set, level-word-is, level-word-lt, level-ext, unused-above, unused-word, level-inside, levels-apart, words-room, words-hold, levels-le, used-level, unused-level, padded-more, padded-other}
 
 -- every word of level l of the record is that of the set
 abbrev pub Level : ℕ → (ℕ → Bool) → List ℕ → ℕ → Type 0

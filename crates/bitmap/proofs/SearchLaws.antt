@@ -19,8 +19,8 @@ use Rattle.model.specs.Sound.{levels-right}
 use Rattle.laws.proofs.Below.{First, first-is, first-unique}
 use Rattle.laws.proofs.Bits.{full-bit, free-bit}
 use Rattle.bitmap.specs.Tree.{Search, level-bit}
-use Rattle.bitmap.proofs.Levels.{level-set, level-word-lt, words-room, words-hold, words-next, levels-le, used-level, unused-level}
-use Rattle.bitmap.proofs.Record.{right-level, level-bit-is}
+use Rattle.bitmap.proofs.LevelLaws.{level-set, level-word-lt, words-room, words-hold, words-next, levels-le, used-level, unused-level}
+use Rattle.bitmap.proofs.RecordLaws.{right-level, level-bit-is}
 
 -- the free bits of a word, and of a level
 abbrev free : ℕ → ℕ → Bool

@@ -1,0 +1,64 @@
+use borrow.Author.Needs.{needs}
+use Rattle.bitmap.proofs.count.ones_in.Statement.{statement}
+use Rattle.bitmap.proofs.count.ones_in.Tie as tie
+use Rattle.bitmap.proofs.count.ones_in.Reads as reads
+use Rattle.bitmap.proofs.count.ones_in.Lts as lts
+use Rattle.words.proofs.bits.ones.Reads as ones-reads
+
+abbrev Inv-loop : tie.InvT-loop
+Inv-loop ws sum₀ j₀ sum j = ?
+
+abbrev μ-loop : tie.MeasureT-loop
+μ-loop ws sum₀ j₀ sum j = ?
+
+-- src/count.rt:21:5
+loop-holds : tie.Need-loop-holds Inv-loop μ-loop
+loop-holds c = search needs
+
+-- src/count.rt:22:21
+mul-ones : tie.Need-mul-ones Inv-loop μ-loop
+mul-ones c = search needs
+
+-- src/count.rt:22:21
+shared-slice-read-ones : tie.Need-shared-slice-read-ones Inv-loop μ-loop
+shared-slice-read-ones c = search needs
+
+-- src/count.rt:22:16
+ones-requires : tie.Need-ones-requires Inv-loop μ-loop
+ones-requires c κs = search needs
+
+-- src/count.rt:22:9
+add-sum : tie.Need-add-sum Inv-loop μ-loop
+add-sum c = search needs
+
+-- src/count.rt:23:9
+add-j : tie.Need-add-j Inv-loop μ-loop
+add-j c = search needs
+
+-- src/count.rt:21:5
+loop-less : tie.Need-loop-less Inv-loop μ-loop
+loop-less c = search needs
+
+-- src/count.rt:21:5
+loop-again : tie.Need-loop-again Inv-loop μ-loop
+loop-again c = search needs
+
+-- src/count.rt:15:1
+returns : tie.Need-returns Inv-loop μ-loop
+returns c = search needs
+
+pub ones-in-spec : {M : Type 1} → statement M
+ones-in-spec =
+    tie.close
+    (tie.spec
+    Inv-loop
+    μ-loop
+    loop-holds
+    mul-ones
+    shared-slice-read-ones
+    ones-requires
+    add-sum
+    add-j
+    loop-less
+    loop-again
+    returns)

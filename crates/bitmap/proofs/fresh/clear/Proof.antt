@@ -1,0 +1,58 @@
+use borrow.Author.Needs.{needs}
+use Rattle.bitmap.proofs.fresh.clear.Statement.{statement}
+use Rattle.bitmap.proofs.fresh.clear.Tie as tie
+use Rattle.bitmap.proofs.fresh.clear.Reads as reads
+use Rattle.bitmap.proofs.fresh.clear.Lts as lts
+
+abbrev Inv-loop : tie.InvT-loop
+Inv-loop rec₀ o₀ rec o = ?
+
+abbrev μ-loop : tie.MeasureT-loop
+μ-loop rec₀ o₀ rec o = ?
+
+-- src/fresh.rt:29:5
+loop-holds : tie.Need-loop-holds Inv-loop μ-loop
+loop-holds c = search needs
+
+-- src/fresh.rt:30:9
+mul-rec : tie.Need-mul-rec Inv-loop μ-loop
+mul-rec c = search needs
+
+-- src/fresh.rt:30:9
+slice-write-rec : tie.Need-slice-write-rec Inv-loop μ-loop
+slice-write-rec c = search needs
+
+-- src/fresh.rt:31:9
+add-o : tie.Need-add-o Inv-loop μ-loop
+add-o c = search needs
+
+-- src/fresh.rt:29:5
+loop-less : tie.Need-loop-less Inv-loop μ-loop
+loop-less c = search needs
+
+-- src/fresh.rt:29:5
+loop-again : tie.Need-loop-again Inv-loop μ-loop
+loop-again c = search needs
+
+-- src/fresh.rt:25:1
+same-length : tie.Need-same-length Inv-loop μ-loop
+same-length c = search needs
+
+-- src/fresh.rt:25:1
+returns : tie.Need-returns Inv-loop μ-loop
+returns c = search needs
+
+pub clear-spec : {M : Type 1} → statement M
+clear-spec =
+    tie.close
+    (tie.spec
+    Inv-loop
+    μ-loop
+    loop-holds
+    mul-rec
+    slice-write-rec
+    add-o
+    loop-less
+    loop-again
+    same-length
+    returns)
