@@ -104,6 +104,11 @@ unused-level i l h three u =
     (at-class (λ i. all-below 4 (λ l. ltb l (levels i) || eqb (level-words i l) 0)) refl i h) l (omega arith))
     (le-ltb _ _ u))
 
+-- how many, class by class
+pub class-levels : (i : ℕ) → is-class i ≡ true → levels i ≡ cond (eqb i 3) 3 (cond (ltb i 9) 2 1)
+unfolding all-below count-below level-words
+class-levels i h = eqb-true _ _ (at-class (λ i. eqb (levels i) (cond (eqb i 3) 3 (cond (ltb i 9) 2 1))) refl i h)
+
 -- two tests of equality agree
 eqb-iff : (a b c d : ℕ) → (a ≡ b → c ≡ d) → (c ≡ d → a ≡ b) → eqb a b ≡ eqb c d
 eqb-iff a b c d f g = go (eqb c d) refl

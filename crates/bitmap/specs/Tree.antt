@@ -3,12 +3,12 @@
 use Prim.Native.Nat.{ℕ, zero, suc, _+_, _-_, _*_, _/_, _%_, _^_, _≤_, _<_}
 use mathlib.Core.Path.{_≡_}
 use mathlib.Core.Bool.{Bool, true, cond, _||_}
-use mathlib.Core.List.{List}
-use lib.ListN.{length, set}
+use mathlib.Core.List.{List, _∷_}
+use lib.ListN.{length, set, replicate}
 use lib.Dec.{eqb, ltb}
 use Rattle.model.specs.Word.{word, bit, ones, full, word-of-bits}
 use Rattle.model.specs.Class.{is-class, blocks, level-words, level-end, levels}
-use Rattle.model.specs.Layout.{level-at, level-room}
+use Rattle.model.specs.Layout.{record-head, level-at, level-room}
 use Rattle.model.specs.Sound.{levels-right}
 
 -- ---- what is asked: a record's 68 words, of a class, at a level
@@ -83,6 +83,10 @@ climbed (suc left) l j rec =
     let once = with-level-bit rec l j in
     let higher = climbed left (suc l) (j / 32) once in
     cond (full (word once (level-at l + j / 32))) higher once
+
+-- a record's head, and 0 behind it
+abbrev pub head-only : ℕ → ℕ → List ℕ
+head-only i rank = record-head i rank 0 ∷ replicate 67 0
 
 -- the word in which a level of so many bits ends: ones past the end
 abbrev pub padding-word : ℕ → ℕ

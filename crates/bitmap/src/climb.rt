@@ -9,9 +9,8 @@ ghost use Rattle.model.specs.Class.{blocks};
 ghost use Rattle.model.specs.Layout.{level-at, level-rows};
 ghost use Rattle.model.specs.View.{bit-in};
 ghost use Rattle.bitmap.specs.Tree.{BitOf, SetBit, with-level-bit, climbed};
-use crate::levels::level_at;
 use crate::levels::levels;
-use crate::levels::wide;
+use crate::levels::word_at;
 use words::bits::with_bit;
 
 // Sets one bit of one level, and says whether its word is full now.
@@ -19,7 +18,7 @@ fn set_level_bit(rec: &mut [u32], level: u32, k: u32) -> bool
     requires { ⌜ BitOf (now rec) level 0 k ⌝ }
     ensures { λ r. ⌜ (now (rec .exit) ≡ with-level-bit (now (rec .entry)) level k) × (r ≡ full (word (now (rec .exit)) (level-at level + k / 32))) ⌝ }
 {
-    let at = level_at(level) + wide(k / 32);
+    let at = word_at(level, k / 32);
     let w = with_bit(rec[at], k % 32);
     rec[at] = w;
     w == 0xFFFF_FFFF

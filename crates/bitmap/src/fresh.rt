@@ -4,10 +4,9 @@ ghost use mathlib.Core.Bool.{false};
 ghost use Prim.Native.Nat.{_<_};
 ghost use lib.ListN.{length, replicate};
 ghost use Rattle.model.specs.Layout.{record-words};
-ghost use Rattle.bitmap.specs.Tree.{OnLevel, Fresh, padding-word, padded-level};
-use crate::levels::level_at;
+ghost use Rattle.bitmap.specs.Tree.{OnLevel, Fresh, head-only, padding-word, padded-level};
 use crate::levels::level_end;
-use crate::levels::wide;
+use crate::levels::word_at;
 use words::class::level_words;
 use words::fields::record_head;
 
@@ -41,8 +40,17 @@ fn pad(rec: &mut [u32], class: u32, level: u32)
     if words == 0 {
         return;
     }
-    let at = level_at(level) + wide(words - 1);
+    let at = word_at(level, words - 1);
     rec[at] = padding(level_end(class, level));
+}
+
+// A record's head, and 0 behind it.
+fn head_only(rec: &mut [u32], class: u32, rank: u32)
+    requires { ⌜ Fresh (now rec) class rank ⌝ }
+    ensures { λ _. ⌜ now (rec .exit) ≡ head-only class rank ⌝ }
+{
+    clear(rec);
+    rec[0] = record_head(class, rank, 0);
 }
 
 // The record of a segment of that class and rank, in which no block's bit is set.
@@ -50,8 +58,7 @@ pub fn fresh(rec: &mut [u32], class: u32, rank: u32)
     requires { ⌜ Fresh (now rec) class rank ⌝ }
     ensures { λ _. ⌜ now (rec .exit) ≡ record-words class rank 0 (λ k. false) ⌝ }
 {
-    clear(rec);
-    rec[0] = record_head(class, rank, 0);
+    head_only(rec, class, rank);
     pad(rec, class, 0);
     pad(rec, class, 1);
     pad(rec, class, 2);

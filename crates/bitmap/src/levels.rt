@@ -1,9 +1,9 @@
 // Where a level stands in a record, where it ends, and how many levels a class uses.
 ghost use mathlib.Core.Path.{_≡_};
 ghost use mathlib.Core.Bool.{true};
-ghost use Prim.Native.Nat.{_<_};
+ghost use Prim.Native.Nat.{_+_, _<_};
 ghost use Rattle.model.specs.Class.{is-class, level-end, levels};
-ghost use Rattle.model.specs.Layout.{level-at};
+ghost use Rattle.model.specs.Layout.{level-at, level-room};
 ghost use Rattle.bitmap.specs.Tree.{ClassLevel};
 use words::class::blocks;
 use words::class::level_words;
@@ -15,7 +15,7 @@ pub fn wide(x: u32) -> usize
     x as usize
 }
 
-pub fn level_at(level: u32) -> usize
+fn level_at(level: u32) -> usize
     requires { ⌜ level < 3 ⌝ }
     ensures { λ r. ⌜ r ≡ level-at level ⌝ }
 {
@@ -26,6 +26,14 @@ pub fn level_at(level: u32) -> usize
     } else {
         67
     }
+}
+
+// Where word j of a level stands in a record.
+pub fn word_at(level: u32, j: u32) -> usize
+    requires { ⌜ (level < 3) × (j < level-room level) ⌝ }
+    ensures { λ r. ⌜ (r ≡ level-at level + j) × (r < 68) ⌝ }
+{
+    level_at(level) + wide(j)
 }
 
 // The end of a level, in bits.

@@ -8,10 +8,9 @@ ghost use Rattle.model.specs.Class.{blocks, level-end};
 ghost use Rattle.model.specs.Layout.{level-at};
 ghost use Rattle.model.specs.View.{bit-in};
 ghost use Rattle.bitmap.specs.Tree.{WordOf, Search, FirstFree, level-bit};
-use crate::levels::level_at;
 use crate::levels::level_end;
 use crate::levels::levels;
-use crate::levels::wide;
+use crate::levels::word_at;
 use words::bits::first_free as first_free_bit;
 
 // The first free bit at or after b in word j of a level, 32 where there is none.
@@ -19,7 +18,7 @@ fn free_in(rec: &[u32], level: u32, j: u32, b: u32) -> u32
     requires { ⌜ WordOf (now rec) level j b ⌝ }
     ensures { λ r. ⌜ r ≡ first-from b (32 - b) (λ x. not (bit (word (now (rec .entry)) (level-at level + j)) x)) ⌝ }
 {
-    let at = level_at(level) + wide(j);
+    let at = word_at(level, j);
     first_free_bit(rec[at], b)
 }
 

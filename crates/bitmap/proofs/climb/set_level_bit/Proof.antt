@@ -3,57 +3,46 @@ use Rattle.bitmap.proofs.climb.set_level_bit.Statement.{statement}
 use Rattle.bitmap.proofs.climb.set_level_bit.Tie as tie
 use Rattle.bitmap.proofs.climb.set_level_bit.Reads as reads
 use Rattle.bitmap.proofs.climb.set_level_bit.Lts as lts
-use Rattle.bitmap.proofs.levels.level_at.Reads as level-at-reads
-use Rattle.bitmap.proofs.levels.wide.Reads as wide-reads
+use Rattle.bitmap.proofs.levels.word_at.Reads as word-at-reads
 use Rattle.words.proofs.bits.with_bit.Reads as with-bit-reads
 
--- src/climb.rt:22:14
-level-at-requires : tie.Need-level-at-requires
-level-at-requires c κs = search needs
+-- src/climb.rt:21:9
+word-at-requires : tie.Need-word-at-requires
+word-at-requires c κs = search needs
 
--- src/climb.rt:22:32
-wide-requires : tie.Need-wide-requires
-wide-requires c κs = search needs
-
--- src/climb.rt:22:14
-add-at : tie.Need-add-at
-add-at c = search needs
-
--- src/climb.rt:23:22
+-- src/climb.rt:22:22
 mul-with-bit : tie.Need-mul-with-bit
 mul-with-bit c = search needs
 
--- src/climb.rt:23:22
+-- src/climb.rt:22:22
 slice-read-with-bit : tie.Need-slice-read-with-bit
 slice-read-with-bit c = search needs
 
--- src/climb.rt:23:9
+-- src/climb.rt:22:9
 with-bit-requires : tie.Need-with-bit-requires
 with-bit-requires c κs = search needs
 
--- src/climb.rt:24:5
+-- src/climb.rt:23:5
 mul-rec : tie.Need-mul-rec
 mul-rec c = search needs
 
--- src/climb.rt:24:5
+-- src/climb.rt:23:5
 slice-write-rec : tie.Need-slice-write-rec
 slice-write-rec c = search needs
 
--- src/climb.rt:18:1
+-- src/climb.rt:17:1
 same-length : tie.Need-same-length
 same-length c = search needs
 
--- src/climb.rt:18:1
+-- src/climb.rt:17:1
 returns : tie.Need-returns
-returns c = search needs
+returns c = ?
 
 pub set-level-bit-spec : {M : Type 1} → statement M
 set-level-bit-spec =
     tie.close
     (tie.spec
-    level-at-requires
-    wide-requires
-    add-at
+    word-at-requires
     mul-with-bit
     slice-read-with-bit
     with-bit-requires

@@ -1,61 +1,55 @@
 use borrow.Author.Needs.{needs}
+use Rattle.bitmap.proofs.LevelLaws.{class-low, class-high}
 use Rattle.bitmap.proofs.fresh.pad.Statement.{statement}
 use Rattle.bitmap.proofs.fresh.pad.Tie as tie
 use Rattle.bitmap.proofs.fresh.pad.Reads as reads
 use Rattle.bitmap.proofs.fresh.pad.Lts as lts
 use Rattle.bitmap.proofs.fresh.padding.Reads as padding-reads
-use Rattle.bitmap.proofs.levels.level_at.Reads as level-at-reads
 use Rattle.bitmap.proofs.levels.level_end.Reads as level-end-reads
-use Rattle.bitmap.proofs.levels.wide.Reads as wide-reads
+use Rattle.bitmap.proofs.levels.word_at.Reads as word-at-reads
 use Rattle.words.proofs.class.level_words.Reads as level-words-reads
 
--- src/fresh.rt:40:9
+-- src/fresh.rt:39:9
 level-words-requires : tie.Need-level-words-requires
-level-words-requires c κs = search needs
+level-words-requires c κs =
+    let i = c .before .args .class in
+    (class-low i (c .before .pre .class), class-high i (c .before .pre .class), c .before .pre .level)
 
--- src/fresh.rt:42:9
+-- src/fresh.rt:41:9
 returns : tie.Need-returns
-returns c = search needs
+returns c = ?
 
--- src/fresh.rt:44:14
-level-at-requires : tie.Need-level-at-requires
-level-at-requires c κs = search needs
+-- src/fresh.rt:43:29
+sub-word-at : tie.Need-sub-word-at
+sub-word-at c = search needs
 
--- src/fresh.rt:44:37
-sub-wide : tie.Need-sub-wide
-sub-wide c = search needs
+-- src/fresh.rt:43:9
+word-at-requires : tie.Need-word-at-requires
+word-at-requires c κs = ?
 
--- src/fresh.rt:44:32
-wide-requires : tie.Need-wide-requires
-wide-requires c κs = search needs
-
--- src/fresh.rt:44:14
-add-at : tie.Need-add-at
-add-at c = search needs
-
--- src/fresh.rt:45:23
+-- src/fresh.rt:44:23
 level-end-requires : tie.Need-level-end-requires
 level-end-requires c κs = search needs
 
--- src/fresh.rt:45:15
+-- src/fresh.rt:44:15
 padding-requires : tie.Need-padding-requires
 padding-requires c κs = search needs
 
--- src/fresh.rt:45:5
+-- src/fresh.rt:44:5
 mul-rec : tie.Need-mul-rec
 mul-rec c = search needs
 
--- src/fresh.rt:45:5
+-- src/fresh.rt:44:5
 slice-write-rec : tie.Need-slice-write-rec
 slice-write-rec c = search needs
 
--- src/fresh.rt:36:1
+-- src/fresh.rt:35:1
 same-length : tie.Need-same-length
 same-length c = search needs
 
--- src/fresh.rt:36:1
+-- src/fresh.rt:35:1
 returns-2 : tie.Need-returns-2
-returns-2 c = search needs
+returns-2 c = ?
 
 pub pad-spec : {M : Type 1} → statement M
 pad-spec =
@@ -63,10 +57,8 @@ pad-spec =
     (tie.spec
     level-words-requires
     returns
-    level-at-requires
-    sub-wide
-    wide-requires
-    add-at
+    sub-word-at
+    word-at-requires
     level-end-requires
     padding-requires
     mul-rec

@@ -1,4 +1,5 @@
 use borrow.Author.Needs.{needs}
+use borrow.Author.Tests.{eq-eqb, ne-eqb}
 use Rattle.bitmap.proofs.fresh.padding.Statement.{statement}
 use Rattle.bitmap.proofs.fresh.padding.Tie as tie
 use Rattle.bitmap.proofs.fresh.padding.Reads as reads
@@ -6,7 +7,7 @@ use Rattle.bitmap.proofs.fresh.padding.Lts as lts
 
 -- src/fresh.rt:20:9
 returns : tie.Need-returns
-returns c = search needs
+returns c = rw (eq-eqb _ _ (c .if1 .taken))
 
 -- src/fresh.rt:22:5
 shl-result : tie.Need-shl-result
@@ -14,7 +15,7 @@ shl-result c = search needs
 
 -- src/fresh.rt:15:1
 returns-2 : tie.Need-returns-2
-returns-2 c = search needs
+returns-2 c = rw (ne-eqb _ _ (c .if1 .left))
 
 pub padding-spec : {M : Type 1} → statement M
 padding-spec = tie.close (tie.spec returns shl-result returns-2)

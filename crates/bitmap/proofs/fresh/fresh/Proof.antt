@@ -1,0 +1,36 @@
+use borrow.Author.Needs.{needs}
+use Rattle.bitmap.proofs.fresh.fresh.Statement.{statement}
+use Rattle.bitmap.proofs.fresh.fresh.Tie as tie
+use Rattle.bitmap.proofs.fresh.fresh.Reads as reads
+use Rattle.bitmap.proofs.fresh.fresh.Lts as lts
+use Rattle.bitmap.proofs.fresh.head_only.Reads as head-only-reads
+use Rattle.bitmap.proofs.fresh.pad.Reads as pad-reads
+
+-- src/fresh.rt:61:5
+head-only-requires : tie.Need-head-only-requires
+head-only-requires c κs = search needs
+
+-- src/fresh.rt:62:5
+pad-requires : tie.Need-pad-requires
+pad-requires c κs = search needs
+
+-- src/fresh.rt:63:5
+pad-requires-2 : tie.Need-pad-requires-2
+pad-requires-2 c κs = search needs
+
+-- src/fresh.rt:64:5
+pad-requires-3 : tie.Need-pad-requires-3
+pad-requires-3 c κs = search needs
+
+-- src/fresh.rt:57:1
+same-length : tie.Need-same-length
+same-length c = search needs
+
+-- src/fresh.rt:57:1
+returns : tie.Need-returns
+returns c = search needs
+
+pub fresh-spec : {M : Type 1} → statement M
+fresh-spec =
+    tie.close
+    (tie.spec head-only-requires pad-requires pad-requires-2 pad-requires-3 same-length returns)

@@ -1,0 +1,31 @@
+use borrow.Author.Needs.{needs}
+use Rattle.bitmap.proofs.fresh.head_only.Statement.{statement}
+use Rattle.bitmap.proofs.fresh.head_only.Tie as tie
+use Rattle.bitmap.proofs.fresh.head_only.Reads as reads
+use Rattle.bitmap.proofs.fresh.head_only.Lts as lts
+use Rattle.bitmap.proofs.fresh.clear.Reads as clear-reads
+use Rattle.words.proofs.fields.record_head.Reads as record-head-reads
+
+-- src/fresh.rt:52:5
+clear-requires : tie.Need-clear-requires
+clear-requires c κs = search needs
+
+-- src/fresh.rt:53:14
+record-head-requires : tie.Need-record-head-requires
+record-head-requires c κs = search needs
+
+-- src/fresh.rt:53:5
+slice-write-rec : tie.Need-slice-write-rec
+slice-write-rec c = search needs
+
+-- src/fresh.rt:48:1
+same-length : tie.Need-same-length
+same-length c = search needs
+
+-- src/fresh.rt:48:1
+returns : tie.Need-returns
+returns c = search needs
+
+pub head-only-spec : {M : Type 1} → statement M
+head-only-spec =
+    tie.close (tie.spec clear-requires record-head-requires slice-write-rec same-length returns)
