@@ -4,6 +4,7 @@ use Prim.Native.Nat.{ℕ, zero, suc, _+_, _-_, _*_, _/_, _%_, _^_, _≤_, _<_}
 use native.Mathlib.Omega.{arith}
 use native.Mathlib.Decide.{decLt, ℕ-discrete}
 use native.Mathlib.Nat.{le-refl}
+use native.Mathlib.Numerals.{add-one}
 use mathlib.Core.Path.{_≡_, refl, sym, ap, ap₂, _∙_}
 use mathlib.Core.Logic.{_≢_, _⊎_, inl, inr}
 use mathlib.Core.Bool.{Bool, true, false, cond, _&&_, _||_, or-true}
@@ -164,6 +165,25 @@ module _ (i : ℕ) (f g : ℕ → Bool) (class : is-class i ≡ true) where
           → Level i g (cond t (climbed left (suc l) (k / 32) (with-level-bit rec l k)) (with-level-bit rec l k)) m
       go ih true e = ih (climbs i l k f g rec class l<3 c (next ∙ e) (used-level i (suc l) class (omega arith))) m m<3
       go ih false e = stops i l k f g rec class l<3 c (inl (next ∙ e)) m m<3
+
+-- ---- the ways out of a turn
+
+pub climbed-last : (left l k : ℕ) (rec : List ℕ) → left ≡ 0 → climbed left l k rec ≡ with-level-bit rec l k
+unfolding climbed
+climbed-last zero l k rec e = refl
+climbed-last (suc left) l k rec e = absurd (omega arith)
+
+pub climbed-stops : (left l k : ℕ) (rec : List ℕ) → full (word (with-level-bit rec l k) (level-at l + k / 32)) ≡ false
+    → climbed left l k rec ≡ with-level-bit rec l k
+unfolding climbed
+climbed-stops zero l k rec e = refl
+climbed-stops (suc left) l k rec e = rw e
+
+pub climbed-higher : (left l k : ℕ) (rec : List ℕ) → 0 < left → full (word (with-level-bit rec l k) (level-at l + k / 32)) ≡ true
+    → climbed left l k rec ≡ climbed (left - 1) (l + 1) (k / 32) (with-level-bit rec l k)
+unfolding climbed
+climbed-higher zero l k rec h e = absurd (omega arith)
+climbed-higher (suc left) l k rec h e = let back : suc left - 1 ≡ left = omega arith in rw (e, back, add-one l)
 
 -- the length stays, and what stands before the levels
 pub climbed-length : (left l k : ℕ) (rec : List ℕ) → length (climbed left l k rec) ≡ length rec

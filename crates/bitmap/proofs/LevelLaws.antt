@@ -29,7 +29,7 @@ and-right : (a b : Bool) → (a && b) ≡ true → b ≡ true
 and-right true b e = e
 and-right false b e = absurd (let z : _≡_ {A = ℕ} 0 1 = cc in omega arith)
 
-or-right : (a b : Bool) → (a || b) ≡ true → a ≡ false → b ≡ true
+pub or-right : (a b : Bool) → (a || b) ≡ true → a ≡ false → b ≡ true
 or-right true b e f = absurd (let z : _≡_ {A = ℕ} 0 1 = cc in omega arith)
 or-right false b e f = e
 
@@ -46,7 +46,7 @@ at-class p t i h =
     let back : i - 3 + 3 ≡ i = omega arith in
     rw back at (all-below-at 10 (λ c. p (c + 3)) t (i - 3) (omega arith))
 
-at-level : (p : ℕ → ℕ → Bool) → every-class (λ i. all-below 3 (p i)) ≡ true → (i l : ℕ) → is-class i ≡ true → l < 3 → p i l ≡ true
+pub at-level : (p : ℕ → ℕ → Bool) → every-class (λ i. all-below 3 (p i)) ≡ true → (i l : ℕ) → is-class i ≡ true → l < 3 → p i l ≡ true
 at-level p t i l h m = all-below-at 3 (p i) (at-class (λ i. all-below 3 (p i)) t i h) l m
 
 -- the words of a level have room
@@ -223,6 +223,12 @@ pub level-inside : (l j : ℕ) → l < 3 → j < level-room l → (0 < level-at 
 level-inside zero j h r = omega arith
 level-inside (suc zero) j h r = omega arith
 level-inside (suc (suc l)) j h r = omega arith
+
+-- the words of a level that has a next one are bits of words for which that has room
+pub room-next : (l j : ℕ) → l + 1 < 3 → j < level-room l → j / 32 < level-room (l + 1)
+room-next zero j h r = omega arith
+room-next (suc zero) j h r = omega arith
+room-next (suc (suc l)) j h r = absurd (omega arith)
 
 pub levels-apart : (l m j k : ℕ) → l < m → m < 3 → j < level-room l → k < level-room m → level-at l + j < level-at m + k
 levels-apart zero zero j k h b r s = absurd (omega arith)

@@ -2,3 +2,5 @@ pub mod LevelLaws
 pub mod ClimbLaws
 pub mod RecordLaws
 pub mod SearchLaws
+pub mod FreshLaws
+pub mod CountLaws

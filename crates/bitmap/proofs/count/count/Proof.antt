@@ -1,4 +1,16 @@
+use Prim.Native.Nat.{ℕ, _+_, _-_, _/_}
+use native.Mathlib.Omega.{arith}
+use mathlib.Core.Path.{_≡_, sym, ap, _∙_}
+use lib.ListN.{length-take, length-drop}
+use lib.Pow.{pow-pos}
 use borrow.Author.Needs.{needs}
+use Rattle.model.specs.Below.{count-below}
+use Rattle.model.specs.Class.{blocks}
+use Rattle.model.specs.View.{bit-in}
+use Rattle.laws.proofs.Bits.{shl-one}
+use Rattle.words.proofs.ClassLaws.{blocks-most}
+use Rattle.bitmap.proofs.LevelLaws.{class-high}
+use Rattle.bitmap.proofs.CountLaws.{count-in-word, count-in-part, whole-words}
 use Rattle.bitmap.proofs.count.count.Statement.{statement}
 use Rattle.bitmap.proofs.count.count.Tie as tie
 use Rattle.bitmap.proofs.count.count.Reads as reads
@@ -10,7 +22,7 @@ use Rattle.words.proofs.class.blocks.Reads as blocks-reads
 
 -- src/count.rt:32:9
 blocks-requires : tie.Need-blocks-requires
-blocks-requires c κs = search needs
+blocks-requires c κs = omega (arith, class-high (c .before .args .class) (c .before .pre .class))
 
 -- src/count.rt:34:21
 shared-slice-read-ones : tie.Need-shared-slice-read-ones
@@ -22,7 +34,7 @@ shl-ones c = search needs
 
 -- src/count.rt:34:21
 rem-ones : tie.Need-rem-ones
-rem-ones c = search needs
+rem-ones c = rw (shl-one (c .before .before .blocks2 .result) (c .before .if1 .taken)) (pow-pos (c .before .before .blocks2 .result))
 
 -- src/count.rt:34:9
 ones-requires : tie.Need-ones-requires
@@ -30,7 +42,11 @@ ones-requires c κs = search needs
 
 -- src/count.rt:34:9
 returns : tie.Need-returns
-returns c = search needs
+returns c =
+    let rec = c .before .before .before .before .before .args .rec .now in
+    let n = c .before .before .before .blocks2 .result in
+    let few = c .before .before .if1 .taken in
+    rw (shl-one n few) at (c .ones .ensures) ∙ count-in-word rec n few ∙ ap (λ (n : ℕ). count-below n (bit-in rec)) (c .before .before .before .blocks2 .ensures)
 
 -- src/count.rt:36:19
 wide-requires : tie.Need-wide-requires
@@ -50,15 +66,24 @@ part-ones-in-start c = search needs
 
 -- src/count.rt:37:13
 part-ones-in-end : tie.Need-part-ones-in-end
-part-ones-in-end c = search needs
+part-ones-in-end c = omega (arith, blocks-most (c .before .before .before .before .args .class) (c .before .before .before .before .pre .class))
 
 -- src/count.rt:37:5
 ones-in-requires : tie.Need-ones-in-requires
-ones-in-requires c κs = search needs
+ones-in-requires c κs =
+    simp (length-take, length-drop)
+    (omega (arith, blocks-most (c .before .before .before .before .before .args .class) (c .before .before .before .before .before .pre .class)))
 
 -- src/count.rt:28:1
 returns-2 : tie.Need-returns-2
-returns-2 c = search needs
+returns-2 c =
+    let rec = c .before .before .before .before .before .before .args .rec .now in
+    let i = c .before .before .before .before .before .before .args .class in
+    let p = c .before .before .before .before .before .before .pre in
+    let words : 1 + c .before .before .wide .result - 1 ≡ blocks i / 32 = omega arith in
+    rw words at (c .ones-in .ensures)
+    ∙ count-in-part rec (blocks i / 32) (omega (arith, blocks-most i (p .class)))
+    ∙ ap (λ (n : ℕ). count-below n (bit-in rec)) (sym (whole-words i (p .class) (omega arith)))
 
 pub count-spec : {M : Type 1} → statement M
 count-spec =

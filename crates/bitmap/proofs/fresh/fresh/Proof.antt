@@ -1,4 +1,8 @@
+use mathlib.Core.Path.{ap, _∙_}
 use borrow.Author.Needs.{needs}
+use Rattle.model.specs.Layout.{record-head}
+use Rattle.bitmap.specs.Tree.{padded-level}
+use Rattle.bitmap.proofs.FreshLaws.{fresh-is}
 use Rattle.bitmap.proofs.fresh.fresh.Statement.{statement}
 use Rattle.bitmap.proofs.fresh.fresh.Tie as tie
 use Rattle.bitmap.proofs.fresh.fresh.Reads as reads
@@ -28,7 +32,18 @@ same-length c = search needs
 
 -- src/fresh.rt:57:1
 returns : tie.Need-returns
-returns c = search needs
+returns c =
+    let third = c .before .before in
+    let second = third .before .before .before .before in
+    let first = second .before .before .before .before in
+    let head = first .before .before .before .before in
+    let start = head .before .before .before in
+    let i = start .args .class in
+    third .pad3 .ensures
+    ∙ ap (padded-level i 2) (second .pad2 .ensures
+    ∙ ap (padded-level i 1) (first .pad .ensures
+    ∙ ap (padded-level i 0) (head .head-only .ensures)))
+    ∙ fresh-is i (record-head i (start .args .rank) 0) (start .pre .class)
 
 pub fresh-spec : {M : Type 1} → statement M
 fresh-spec =

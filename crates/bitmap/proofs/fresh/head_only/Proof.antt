@@ -1,4 +1,10 @@
+use Prim.Native.Nat.{ℕ}
+use native.Mathlib.Omega.{arith}
+use mathlib.Core.Path.{ap, ap₂, _∙_}
+use mathlib.Core.List.{List}
+use lib.ListN.{set, replicate}
 use borrow.Author.Needs.{needs}
+use Rattle.bitmap.proofs.LevelLaws.{class-high}
 use Rattle.bitmap.proofs.fresh.head_only.Statement.{statement}
 use Rattle.bitmap.proofs.fresh.head_only.Tie as tie
 use Rattle.bitmap.proofs.fresh.head_only.Reads as reads
@@ -12,7 +18,9 @@ clear-requires c κs = search needs
 
 -- src/fresh.rt:53:14
 record-head-requires : tie.Need-record-head-requires
-record-head-requires c κs = search needs
+record-head-requires c κs =
+    let p = c .before .before .before .before .before .pre in
+    (omega (arith, class-high (c .before .before .before .before .before .args .class) (p .class)), p .ranked, search needs)
 
 -- src/fresh.rt:53:5
 slice-write-rec : tie.Need-slice-write-rec
@@ -24,7 +32,10 @@ same-length c = search needs
 
 -- src/fresh.rt:48:1
 returns : tie.Need-returns
-returns c = search needs
+returns c =
+    ap₂ (λ (l : List ℕ) (v : ℕ). set l 0 v)
+    (c .before .before .before .clear .ensures ∙ ap (λ (n : ℕ). replicate n 0) (c .before .before .before .before .before .before .pre .long))
+    (c .record-head .ensures)
 
 pub head-only-spec : {M : Type 1} → statement M
 head-only-spec =

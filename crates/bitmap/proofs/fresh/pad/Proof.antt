@@ -1,5 +1,12 @@
+use Prim.Native.Nat.{ℕ}
+use mathlib.Core.Path.{ap, ap₂, _∙_}
+use lib.ListN.{set}
+use native.Mathlib.Omega.{arith}
+use borrow.Author.Tests.{lt-ltb, le-ltb}
+use Rattle.model.specs.Class.{level-words}
 use borrow.Author.Needs.{needs}
-use Rattle.bitmap.proofs.LevelLaws.{class-low, class-high}
+use Rattle.bitmap.specs.Tree.{padding-word}
+use Rattle.bitmap.proofs.LevelLaws.{class-low, class-high, words-room}
 use Rattle.bitmap.proofs.fresh.pad.Statement.{statement}
 use Rattle.bitmap.proofs.fresh.pad.Tie as tie
 use Rattle.bitmap.proofs.fresh.pad.Reads as reads
@@ -17,7 +24,9 @@ level-words-requires c κs =
 
 -- src/fresh.rt:41:9
 returns : tie.Need-returns
-returns c = ?
+returns c =
+    let none = c .before .level-words .ensures in
+    rw (le-ltb 0 (level-words (c .before .before .before .args .class) (c .before .before .before .args .level)) (omega arith))
 
 -- src/fresh.rt:43:29
 sub-word-at : tie.Need-sub-word-at
@@ -25,7 +34,10 @@ sub-word-at c = search needs
 
 -- src/fresh.rt:43:9
 word-at-requires : tie.Need-word-at-requires
-word-at-requires c κs = ?
+word-at-requires c κs =
+    let a = c .before .before .before .args in
+    let p = c .before .before .before .pre in
+    (p .level, omega (arith, words-room (a .class) (a .level) (p .class) (p .level)))
 
 -- src/fresh.rt:44:23
 level-end-requires : tie.Need-level-end-requires
@@ -49,7 +61,10 @@ same-length c = search needs
 
 -- src/fresh.rt:35:1
 returns-2 : tie.Need-returns-2
-returns-2 c = ?
+returns-2 c =
+    let a = c .before .before .before .before .before .before .args in
+    rw (lt-ltb 0 (level-words (a .class) (a .level)) (omega arith))
+    (ap₂ (λ (o v : ℕ). set (a .rec .now) o v) (omega arith) (c .padding .ensures ∙ ap padding-word (c .before .level-end .ensures)))
 
 pub pad-spec : {M : Type 1} → statement M
 pad-spec =
