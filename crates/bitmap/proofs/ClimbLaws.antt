@@ -166,24 +166,27 @@ module _ (i : ℕ) (f g : ℕ → Bool) (class : is-class i ≡ true) where
       go ih true e = ih (climbs i l k f g rec class l<3 c (next ∙ e) (used-level i (suc l) class (omega arith))) m m<3
       go ih false e = stops i l k f g rec class l<3 c (inl (next ∙ e)) m m<3
 
--- ---- the ways out of a turn
+-- ---- the ways out of a turn, after which the record is `once`
 
-pub climbed-last : (left l k : ℕ) (rec : List ℕ) → left ≡ 0 → climbed left l k rec ≡ with-level-bit rec l k
-unfolding climbed
-climbed-last zero l k rec e = refl
-climbed-last (suc left) l k rec e = absurd (omega arith)
+module _ (l k : ℕ) (rec once : List ℕ) (turn : once ≡ with-level-bit rec l k) where
+  -- there is no level left
+  pub climbed-last : (left : ℕ) → left ≡ 0 → once ≡ climbed left l k rec
+  unfolding climbed
+  climbed-last zero e = turn
+  climbed-last (suc left) e = absurd (omega arith)
 
-pub climbed-stops : (left l k : ℕ) (rec : List ℕ) → full (word (with-level-bit rec l k) (level-at l + k / 32)) ≡ false
-    → climbed left l k rec ≡ with-level-bit rec l k
-unfolding climbed
-climbed-stops zero l k rec e = refl
-climbed-stops (suc left) l k rec e = rw e
+  -- the word is not full
+  pub climbed-stops : (left : ℕ) → full (word once (level-at l + k / 32)) ≡ false → once ≡ climbed left l k rec
+  unfolding climbed
+  climbed-stops zero e = turn
+  climbed-stops (suc left) e = rw (← turn, e)
 
-pub climbed-higher : (left l k : ℕ) (rec : List ℕ) → 0 < left → full (word (with-level-bit rec l k) (level-at l + k / 32)) ≡ true
-    → climbed left l k rec ≡ climbed (left - 1) (l + 1) (k / 32) (with-level-bit rec l k)
-unfolding climbed
-climbed-higher zero l k rec h e = absurd (omega arith)
-climbed-higher (suc left) l k rec h e = let back : suc left - 1 ≡ left = omega arith in rw (e, back, add-one l)
+  -- it is, and the next level gets its bit
+  pub climbed-higher : (left : ℕ) → 0 < left → full (word once (level-at l + k / 32)) ≡ true
+      → climbed (left - 1) (l + 1) (k / 32) once ≡ climbed left l k rec
+  unfolding climbed
+  climbed-higher zero h e = absurd (omega arith)
+  climbed-higher (suc left) h e = let back : suc left - 1 ≡ left = omega arith in rw (← turn, e, back, add-one l)
 
 -- the length stays, and what stands before the levels
 pub climbed-length : (left l k : ℕ) (rec : List ℕ) → length (climbed left l k rec) ≡ length rec

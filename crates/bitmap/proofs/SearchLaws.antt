@@ -3,6 +3,7 @@
 use Prim.Native.Nat.{ℕ, zero, suc, _+_, _-_, _*_, _/_, _%_, _^_, _≤_, _<_}
 use native.Mathlib.Omega.{arith}
 use native.Mathlib.Nat.{le-refl}
+use native.Mathlib.Numerals.{add-one}
 use native.Mathlib.Decide.{decLt, ℕ-discrete}
 use mathlib.Core.Logic.{_≢_}
 use mathlib.Core.Path.{_≡_, refl, sym, ap, _∙_}
@@ -29,8 +30,8 @@ free w b = not (bit w b)
 abbrev free-at : List ℕ → ℕ → ℕ → Bool
 free-at rec l j = not (level-bit rec l j)
 
-module _ (rec : List ℕ) (i l left k : ℕ) (s : Search rec i l left k) where
-  l<3 : l < 3
+module _ {rec : List ℕ} {i l left k : ℕ} (s : Search rec i l left k) where
+  pub l<3 : l < 3
   l<3 = omega (arith, levels-le i (s .class), s .level)
 
   used : 0 < level-words i l
@@ -38,6 +39,22 @@ module _ (rec : List ℕ) (i l left k : ℕ) (s : Search rec i l left k) where
 
   hold : level-end i l ≤ 32 * level-words i l
   hold = words-hold i l (s .class) l<3 used
+
+  -- the words that a search reads are the level's
+  pub own-room : k < level-end i l → k / 32 < level-room l
+  own-room k<end = omega (arith, hold, words-room i l (s .class) l<3)
+
+  -- the search one level higher, from the next word on
+  pub higher : 0 < left → k < level-end i l → Search rec i (l + 1) (left - 1) (k / 32 + 1)
+  unfolding level-end
+  higher more k<end =
+      record {
+        long = s .long;
+        class = s .class;
+        right = s .right;
+        level = omega (arith, s .level);
+        inside = rw (add-one l) (omega (arith, hold))
+      }
 
   -- a bit past the level's end is set, so a free one stands before it
   inside : (j : ℕ) → j < 32 * level-words i l → level-bit rec l j ≡ false → j < level-end i l
@@ -119,9 +136,16 @@ module _ (rec : List ℕ) (i l left k : ℕ) (s : Search rec i l left k) where
 
     -- the next level tells of no other word
     module _ (more : 0 < left) (full-word : 32 ≤ b) (next : ℕ)
-        (up : next ≡ first-from (k / 32 + 1) (level-end i (suc l) - (k / 32 + 1)) (free-at rec (suc l))) where
+        (up : next ≡ first-from (k / 32 + 1) (level-end i (l + 1) - (k / 32 + 1)) (free-at rec (l + 1))) where
       first-up : First (k / 32 + 1) (level-end i (suc l) - (k / 32 + 1)) (free-at rec (suc l)) next
-      first-up = rw up (first-is (k / 32 + 1) (level-end i (suc l) - (k / 32 + 1)) (free-at rec (suc l)))
+      first-up = rw (rw (add-one l) at up) (first-is (k / 32 + 1) (level-end i (suc l) - (k / 32 + 1)) (free-at rec (suc l)))
+
+      next-end : next ≢ level-end i (l + 1) → k < level-end i l → next < level-words i l
+      unfolding level-end
+      next-end e k<end = let e : next ≢ level-end i (suc l) = rw (add-one l) at e in omega (arith, first-up .within, hold)
+
+      pub next-room : next ≢ level-end i (l + 1) → k < level-end i l → next < level-room l
+      next-room e k<end = omega (arith, next-end e k<end, words-room i l (s .class) l<3)
 
       -- bits of the words before that one
       words-before : (x : ℕ) → k ≤ x → x / 32 < next → x / 32 < level-words i l → level-bit rec l x ≡ true
@@ -133,16 +157,18 @@ module _ (rec : List ℕ) (i l left k : ℕ) (s : Search rec i l left k) where
               full-bit (word rec (level-at l + x / 32)) (x % 32) (omega arith)
               (sym (next-bit (x / 32) more used-word) ∙ not-false _ (first-up .before (x / 32) (omega arith) h))
 
-      pub no-word : k < level-end i l → next ≡ level-end i (suc l) → level-end i l ≡ first-from k (level-end i l - k) (free-at rec l)
+      pub no-word : k < level-end i l → next ≡ level-end i (l + 1) → level-end i l ≡ first-from k (level-end i l - k) (free-at rec l)
       unfolding level-end
-      no-word k<end e = first-none (λ x low high. words-before x low (omega (arith, hold)) (omega (arith, hold)))
+      no-word k<end e =
+          let e : next ≡ level-end i (suc l) = rw (add-one l) at e in
+          first-none (λ x low high. words-before x low (omega (arith, hold)) (omega (arith, hold)))
 
       -- it tells of one, and there the search comes down
-      pub down : k < level-end i l → next ≢ level-end i (suc l) → (c : ℕ) → c ≡ first-from 0 32 (free (word rec (level-at l + next)))
+      pub down : k < level-end i l → next ≢ level-end i (l + 1) → (c : ℕ) → c ≡ first-from 0 32 (free (word rec (level-at l + next)))
           → 32 * next + c ≡ first-from k (level-end i l - k) (free-at rec l)
       unfolding level-end
       down k<end e c there =
-          let used-next : next < level-words i l = omega (arith, first-up .within, hold) in
+          let used-next = next-end e k<end in
           let not-full : full (word rec (level-at l + next)) ≡ false =
               sym (next-bit next more used-next) ∙ not-true _ (first-up .found (omega (arith, hold))) in
           let small : word rec (level-at l + next) < 2 ^ 32 =

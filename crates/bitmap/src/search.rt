@@ -1,7 +1,7 @@
 // The search for a free block.
 ghost use mathlib.Core.Path.{_≡_};
 ghost use mathlib.Core.Bool.{not};
-ghost use Prim.Native.Nat.{_+_, _-_, _<_};
+ghost use Prim.Native.Nat.{_+_, _-_, _≤_};
 ghost use Rattle.model.specs.Below.{first-from};
 ghost use Rattle.model.specs.Word.{word, bit};
 ghost use Rattle.model.specs.Class.{blocks, level-end};
@@ -16,7 +16,7 @@ use words::bits::first_free as first_free_bit;
 // The first free bit at or after b in word j of a level, 32 where there is none.
 fn free_in(rec: &[u32], level: u32, j: u32, b: u32) -> u32
     requires { ⌜ WordOf (now rec) level j b ⌝ }
-    ensures { λ r. ⌜ r ≡ first-from b (32 - b) (λ x. not (bit (word (now (rec .entry)) (level-at level + j)) x)) ⌝ }
+    ensures { λ r. ⌜ (r ≡ first-from b (32 - b) (λ x. not (bit (word (now (rec .entry)) (level-at level + j)) x))) × (r ≤ 32) ⌝ }
 {
     let at = word_at(level, j);
     first_free_bit(rec[at], b)

@@ -1,6 +1,7 @@
 -- The proof of the cycle of calls {climb}. The measure is the number of levels left. Each way out is a turn of `climbed`.
 -- Assumes nothing.
-use Prim.Native.Nat.{ℕ, _<_}
+use Prim.Native.Nat.{ℕ, _/_, _<_}
+use mathlib.Core.Path.{sym, _∙_}
 use native.Mathlib.Omega.{arith}
 use borrow.Author.Needs.{needs}
 use borrow.Fn.Kinds.{In}
@@ -37,25 +38,45 @@ sub-climb : (t : ℕ) → lts.Need-sub-climb (calls t) (climb-at t) climb.Post
 sub-climb t c = search needs
 
 climb-requires : (t : ℕ) → lts.Need-climb-requires (calls t) (climb-at t) climb.Post
-climb-requires t c κs = ?
+climb-requires t c κs =
+    let turn = c .before .before .before .before .before in
+    let start = turn .before .before .before in
+    (search needs,
+    record {
+      long = turn .set-level-bit .kept .0 ∙ start .pre .1 .long;
+      level = search needs;
+      inside = room-next (start .args .level) (start .args .k / 32) (search needs) (start .pre .1 .inside)
+    })
 
 same-length : (t : ℕ) → lts.Need-same-length (calls t) (climb-at t) climb.Post
 same-length t c = search needs
 
 returns : (t : ℕ) → lts.Need-returns (calls t) (climb-at t) climb.Post
-returns t c = ?
+returns t c =
+    let turn = c .before .before .before .before .before .before .before .before in
+    let start = turn .before .before .before in
+    c .before .before .climb .ensures
+    ∙ climbed-higher (start .args .level) (start .args .k) (start .args .rec .now) _ (turn .set-level-bit .ensures .0) (start .args .left)
+    (search needs) (sym (turn .set-level-bit .ensures .1) ∙ c .before .before .before .before .before .if1 .taken)
 
 same-length-2 : (t : ℕ) → lts.Need-same-length-2 (calls t) (climb-at t) climb.Post
 same-length-2 t c = search needs
 
 returns-2 : (t : ℕ) → lts.Need-returns-2 (calls t) (climb-at t) climb.Post
-returns-2 t c = ?
+returns-2 t c =
+    let turn = c .before .before .before .before in
+    let start = turn .before .before .before in
+    climbed-last (start .args .level) (start .args .k) (start .args .rec .now) _ (turn .set-level-bit .ensures .0) (start .args .left) (search needs)
 
 same-length-3 : (t : ℕ) → lts.Need-same-length-3 (calls t) (climb-at t) climb.Post
 same-length-3 t c = search needs
 
 returns-3 : (t : ℕ) → lts.Need-returns-3 (calls t) (climb-at t) climb.Post
-returns-3 t c = ?
+returns-3 t c =
+    let turn = c .before .before .before in
+    let start = turn .before .before .before in
+    climbed-stops (start .args .level) (start .args .k) (start .args .rec .now) _ (turn .set-level-bit .ensures .0) (start .args .left)
+    (sym (turn .set-level-bit .ensures .1) ∙ c .if1 .left)
 
 pub +climb-spec : {M : Type 1} → statement M
 +climb-spec = close μ-climb (λ t. lts.spec (calls t) (climb-at t) climb.Post

@@ -1,8 +1,10 @@
 use Prim.Native.Nat.{ℕ, _-_}
 use mathlib.Core.Path.{ap, _∙_}
-use mathlib.Core.Bool.{not}
+use mathlib.Core.Bool.{Bool, not}
+use native.Mathlib.Omega.{arith}
 use Rattle.model.specs.Below.{first-from}
 use Rattle.model.specs.Word.{word, bit}
+use Rattle.laws.proofs.Below.{first-is}
 use borrow.Author.Needs.{needs}
 use Rattle.bitmap.proofs.search.free_in.Statement.{statement}
 use Rattle.bitmap.proofs.search.free_in.Tie as tie
@@ -31,7 +33,10 @@ first-free-requires c κs = search needs
 returns : tie.Need-returns
 returns c =
     let a = c .before .before .before .before .args in
-    c .first-free .ensures ∙ ap (λ (o : ℕ). first-from (a .b) (32 - a .b) (λ x. not (bit (word (a .rec .now) o) x))) (c .before .before .word-at .ensures .0)
+    let free : ℕ → ℕ → Bool = λ o x. not (bit (word (a .rec .now) o) x) in
+    let at = c .before .before .word-at .result in
+    (c .first-free .ensures ∙ ap (λ (o : ℕ). first-from (a .b) (32 - a .b) (free o)) (c .before .before .word-at .ensures .0),
+    omega (arith, first-is (a .b) (32 - a .b) (free at) .within))
 
 pub free-in-spec : {M : Type 1} → statement M
 free-in-spec =
