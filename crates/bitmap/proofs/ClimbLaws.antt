@@ -130,7 +130,7 @@ module _ (i l k : ℕ) (f g : ℕ → Bool) (rec : List ℕ) (class : is-class i
         above = λ m h. still m (omega arith);
         used = λ _. next;
         inside = λ _. k-word;
-        more = λ x _. next-more e x
+        more = λ x _. next-more e x;
       }
 
   -- a turn that does not climb is the last
@@ -141,6 +141,7 @@ module _ (i l k : ℕ) (f g : ℕ → Bool) (rec : List ℕ) (class : is-class i
       same : (why : (full (level-word i g l (k / 32)) ≡ false) ⊎ (level-words i (suc l) ≡ 0)) → suc l ≤ m → (j : ℕ) → level-word i f m j ≡ level-word i g m j
       same (inl e) h j = level-ext i f g (suc l) (λ x _. next-same e x) m h j
       same (inr z) h j = unused-word i f m j (unused-above i (suc l) z m h) ∙ sym (unused-word i g m j (unused-above i (suc l) z m h))
+
       go : Dec (l < m) → Level i g (with-level-bit rec l k) m
       go (yes h) j r = still m h m<3 j r ∙ same why h j
       go (no h) j r = up-to m (omega arith) j r
@@ -158,8 +159,10 @@ module _ (i : ℕ) (f g : ℕ → Bool) (class : is-class i ≡ true) where
     where
       l<3 : l < 3
       l<3 = omega (arith, levels-le i class)
+
       next : full (level-word i g l (k / 32)) ≡ full (word (with-level-bit rec l k) (level-at l + k / 32))
       next = ap full (sym (set-word i l k f g rec class l<3 c))
+
       go : (Climbing i (suc l) (k / 32) f g (with-level-bit rec l k) → (m : ℕ) → m < 3 → Level i g (climbed left (suc l) (k / 32) (with-level-bit rec l k)) m)
           → (t : Bool) → full (word (with-level-bit rec l k) (level-at l + k / 32)) ≡ t
           → Level i g (cond t (climbed left (suc l) (k / 32) (with-level-bit rec l k)) (with-level-bit rec l k)) m
@@ -213,6 +216,7 @@ climbed-head (suc left) l k rec =
   where
     head : word (with-level-bit rec l k) 0 ≡ word rec 0
     head = getD-set-other rec (level-at l + k / 32) 0 _ 0 (omega (arith, before-levels l))
+
     go : word (climbed left (suc l) (k / 32) (with-level-bit rec l k)) 0 ≡ word (with-level-bit rec l k) 0
         → (t : Bool) → word (cond t (climbed left (suc l) (k / 32) (with-level-bit rec l k)) (with-level-bit rec l k)) 0 ≡ word rec 0
     go ih true = ih ∙ head

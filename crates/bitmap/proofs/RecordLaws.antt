@@ -118,7 +118,7 @@ pub rows-ext : (i : ℕ) (f g : ℕ → Bool) → ((k : ℕ) → k < blocks i �
 unfolding level-rows level-end
 rows-ext i f g e =
     let same : (l : ℕ) → (n : ℕ) → words-below n (level-word i f l) ≡ words-below n (level-word i g l) =
-        λ l n. words-below-ext n (level-word i f l) (level-word i g l) (λ j _. level-ext i f g 0 e l zero-le j) in
+    λ l n. words-below-ext n (level-word i f l) (level-word i g l) (λ j _. level-ext i f g 0 e l zero-le j) in
     ap₂ _++_ (same 0 64) (ap₂ _++_ (same 1 2) (same 2 1))
 
 -- such a record's levels are right
@@ -150,5 +150,5 @@ set-bit-is rec i k s =
       above = λ m _ h. right-level i rec (s .right) m h;
       used = λ _. used-level i 0 (s .class) (levels-pos i (s .class));
       inside = λ _. s .block;
-      more = λ x _. refl
+      more = λ x _. refl;
     }))

@@ -53,7 +53,7 @@ module _ {rec : List ℕ} {i l left k : ℕ} (s : Search rec i l left k) where
         class = s .class;
         right = s .right;
         level = omega (arith, s .level);
-        inside = rw (add-one l) (omega (arith, hold))
+        inside = rw (add-one l) (omega (arith, hold));
       }
 
   -- a bit past the level's end is set, so a free one stands before it
@@ -170,9 +170,9 @@ module _ {rec : List ℕ} {i l left k : ℕ} (s : Search rec i l left k) where
       down k<end e c there =
           let used-next = next-end e k<end in
           let not-full : full (word rec (level-at l + next)) ≡ false =
-              sym (next-bit next more used-next) ∙ not-true _ (first-up .found (omega (arith, hold))) in
+          sym (next-bit next more used-next) ∙ not-true _ (first-up .found (omega (arith, hold))) in
           let small : word rec (level-at l + next) < 2 ^ 32 =
-              rw (right-level i rec (s .right) l l<3 next (omega (arith, words-room i l (s .class) l<3))) (level-word-lt i (bit-in rec) l next) in
+          rw (right-level i rec (s .right) l l<3 next (omega (arith, words-room i l (s .class) l<3))) (level-word-lt i (bit-in rec) l next) in
           let first-there : First 0 32 (free (word rec (level-at l + next))) c = rw there (first-is 0 32 (free (word rec (level-at l + next)))) in
           let c<32 : c < 32 = stops-there c first-there (free-bit (word rec (level-at l + next)) small not-full) (decLt c 32) in
           let word-of : (32 * next + c) / 32 ≡ next = omega arith in
@@ -185,6 +185,7 @@ module _ {rec : List ℕ} {i l left k : ℕ} (s : Search rec i l left k) where
           stops-there c f z (yes h) = h
           stops-there c f z (no h) =
               absurd (true≢false (sym (not-false _ (f .before (z .0) (omega arith) (omega (arith, z .1)))) ∙ z .2))
+
           at-or-before : (c : ℕ) → First 0 32 (free (word rec (level-at l + next))) c → next < level-words i l
               → (x : ℕ) → k ≤ x → x < 32 * next + c → Dec (x / 32 < next) → level-bit rec l x ≡ true
           at-or-before c f used-next x low high (yes h) = words-before x low h (omega arith)

@@ -8,8 +8,8 @@
 // Shown here of each operation: the record afterwards, word by word, and the answer, against the levels of
 // document 01 as crate model states them.
 
-pub mod levels;
-pub mod fresh;
 pub mod climb;
-pub mod search;
 pub mod count;
+pub mod fresh;
+pub mod levels;
+pub mod search;

@@ -2,7 +2,6 @@
 -- Assumes nothing.
 use Prim.Native.Nat.{ℕ, _/_, _<_}
 use mathlib.Core.Path.{sym, _∙_}
-use native.Mathlib.Omega.{arith}
 use borrow.Author.Needs.{needs}
 use borrow.Fn.Kinds.{In}
 use borrow.Fn.PlainCycle.{Measures, is, falls, and}
@@ -40,13 +39,14 @@ sub-climb t c = search needs
 climb-requires : (t : ℕ) → lts.Need-climb-requires (calls t) (climb-at t) climb.Post
 climb-requires t c κs =
     let turn = c .before .before .before .before .before in
-    let start = turn .before .before .before in
-    (search needs,
-    record {
-      long = turn .set-level-bit .kept .0 ∙ start .pre .1 .long;
-      level = search needs;
-      inside = room-next (start .args .level) (start .args .k / 32) (search needs) (start .pre .1 .inside)
-    })
+    let start = turn .before .before .before in (
+      search needs,
+      record {
+        long = turn .set-level-bit .kept .0 ∙ start .pre .1 .long;
+        level = search needs;
+        inside = room-next (start .args .level) (start .args .k / 32) (search needs) (start .pre .1 .inside);
+      },
+    )
 
 same-length : (t : ℕ) → lts.Need-same-length (calls t) (climb-at t) climb.Post
 same-length t c = search needs

@@ -1,3 +1,5 @@
+-- `bitmap::climb::set_bit` meets its contract: what climbs from level 0 leaves the levels of the set with one block more (RecordLaws).
+-- Assumes nothing.
 use Prim.Native.Nat.{ℕ, _-_}
 use native.Mathlib.Omega.{arith}
 use mathlib.Core.Path.{ap, _∙_}
@@ -8,20 +10,13 @@ use Rattle.bitmap.proofs.LevelLaws.{levels-pos, levels-le}
 use Rattle.bitmap.proofs.RecordLaws.{set-bit-is}
 use Rattle.bitmap.proofs.climb.set_bit.Statement.{statement}
 use Rattle.bitmap.proofs.climb.set_bit.Tie as tie
-use Rattle.bitmap.proofs.climb.set_bit.Reads as reads
-use Rattle.bitmap.proofs.climb.set_bit.Lts as lts
-use Rattle.bitmap.proofs.climb.climb.Reads as climb-reads
-use Rattle.bitmap.proofs.levels.levels.Reads as levels-reads
 
--- src/climb.rt:45:19
 levels-requires : tie.Need-levels-requires
 levels-requires c κs = search needs
 
--- src/climb.rt:45:19
 sub-climb : tie.Need-sub-climb
 sub-climb c = omega (arith, levels-pos (c .before .before .before .args .class) (c .before .before .before .pre .class))
 
--- src/climb.rt:45:5
 climb-requires : tie.Need-climb-requires
 climb-requires c κs =
     let a = c .before .before .before .args in
@@ -29,14 +24,12 @@ climb-requires c κs =
     record {
       long = p .long;
       level = omega (arith, levels-le (a .class) (p .class), levels-pos (a .class) (p .class));
-      inside = omega (arith, blocks-most (a .class) (p .class))
+      inside = omega (arith, blocks-most (a .class) (p .class));
     }
 
--- src/climb.rt:41:1
 same-length : tie.Need-same-length
 same-length c = search needs
 
--- src/climb.rt:41:1
 returns : tie.Need-returns
 returns c =
     let a = c .before .before .before .before .before .before .args in

@@ -1,3 +1,5 @@
+-- `bitmap::count::count` meets its contract: a class of fewer than 32 blocks has them in one word, and any other in whole words (CountLaws).
+-- Assumes nothing.
 use Prim.Native.Nat.{ℕ, _+_, _-_, _/_}
 use native.Mathlib.Omega.{arith}
 use mathlib.Core.Path.{_≡_, sym, ap, _∙_}
@@ -13,34 +15,22 @@ use Rattle.bitmap.proofs.LevelLaws.{class-high}
 use Rattle.bitmap.proofs.CountLaws.{count-in-word, count-in-part, whole-words}
 use Rattle.bitmap.proofs.count.count.Statement.{statement}
 use Rattle.bitmap.proofs.count.count.Tie as tie
-use Rattle.bitmap.proofs.count.count.Reads as reads
-use Rattle.bitmap.proofs.count.count.Lts as lts
-use Rattle.bitmap.proofs.count.ones_in.Reads as ones-in-reads
-use Rattle.bitmap.proofs.levels.wide.Reads as wide-reads
-use Rattle.words.proofs.bits.ones.Reads as ones-reads
-use Rattle.words.proofs.class.blocks.Reads as blocks-reads
 
--- src/count.rt:32:9
 blocks-requires : tie.Need-blocks-requires
 blocks-requires c κs = omega (arith, class-high (c .before .args .class) (c .before .pre .class))
 
--- src/count.rt:34:21
 shared-slice-read-ones : tie.Need-shared-slice-read-ones
 shared-slice-read-ones c = search needs
 
--- src/count.rt:34:31
 shl-ones : tie.Need-shl-ones
 shl-ones c = search needs
 
--- src/count.rt:34:21
 rem-ones : tie.Need-rem-ones
 rem-ones c = rw (shl-one (c .before .before .blocks2 .result) (c .before .if1 .taken)) (pow-pos (c .before .before .blocks2 .result))
 
--- src/count.rt:34:9
 ones-requires : tie.Need-ones-requires
 ones-requires c κs = search needs
 
--- src/count.rt:34:9
 returns : tie.Need-returns
 returns c =
     let rec = c .before .before .before .before .before .args .rec .now in
@@ -48,33 +38,26 @@ returns c =
     let few = c .before .before .if1 .taken in
     rw (shl-one n few) at (c .ones .ensures) ∙ count-in-word rec n few ∙ ap (λ (n : ℕ). count-below n (bit-in rec)) (c .before .before .before .blocks2 .ensures)
 
--- src/count.rt:36:19
 wide-requires : tie.Need-wide-requires
 wide-requires c κs = search needs
 
--- src/count.rt:36:15
 add-end : tie.Need-add-end
 add-end c = search needs
 
--- src/count.rt:37:13
 sub-ones-in : tie.Need-sub-ones-in
 sub-ones-in c = search needs
 
--- src/count.rt:37:13
 part-ones-in-start : tie.Need-part-ones-in-start
 part-ones-in-start c = search needs
 
--- src/count.rt:37:13
 part-ones-in-end : tie.Need-part-ones-in-end
 part-ones-in-end c = omega (arith, blocks-most (c .before .before .before .before .args .class) (c .before .before .before .before .pre .class))
 
--- src/count.rt:37:5
 ones-in-requires : tie.Need-ones-in-requires
 ones-in-requires c κs =
     simp (length-take, length-drop)
     (omega (arith, blocks-most (c .before .before .before .before .before .args .class) (c .before .before .before .before .before .pre .class)))
 
--- src/count.rt:28:1
 returns-2 : tie.Need-returns-2
 returns-2 c =
     let rec = c .before .before .before .before .before .before .args .rec .now in

@@ -1,16 +1,16 @@
+-- `bitmap::count::ones_in` meets its contract. The loop's invariant: `sum` is the number of ones in the words passed, at most 32 in each.
+-- The measure is what is left of the length.
+-- Assumes nothing.
 use Prim.Native.Nat.{ℕ, _+_, _-_, _*_, _≤_}
 use native.Mathlib.Omega.{arith}
 use mathlib.Core.Path.{_≡_, sym, ap, ap₂, _∙_}
 use lib.ListN.{length}
+use borrow.Author.Needs.{needs}
 use Rattle.model.specs.Below.{count-below, sum-below}
 use Rattle.model.specs.Word.{word, bit}
-use borrow.Author.Needs.{needs}
 use Rattle.laws.proofs.Below.{sum-below-step, count-below-le}
 use Rattle.bitmap.proofs.count.ones_in.Statement.{statement}
 use Rattle.bitmap.proofs.count.ones_in.Tie as tie
-use Rattle.bitmap.proofs.count.ones_in.Reads as reads
-use Rattle.bitmap.proofs.count.ones_in.Lts as lts
-use Rattle.words.proofs.bits.ones.Reads as ones-reads
 
 abbrev Inv-loop : tie.InvT-loop
 Inv-loop ws sum₀ j₀ sum j =
@@ -19,47 +19,40 @@ Inv-loop ws sum₀ j₀ sum j =
 abbrev μ-loop : tie.MeasureT-loop
 μ-loop ws sum₀ j₀ sum j = length ws - j
 
--- src/count.rt:21:5
 loop-holds : tie.Need-loop-holds Inv-loop μ-loop
 unfolding sum-below
 loop-holds c = search needs
 
--- src/count.rt:22:21
 mul-ones : tie.Need-mul-ones Inv-loop μ-loop
 mul-ones c = search needs
 
--- src/count.rt:22:21
 shared-slice-read-ones : tie.Need-shared-slice-read-ones Inv-loop μ-loop
 shared-slice-read-ones c = search needs
 
--- src/count.rt:22:16
 ones-requires : tie.Need-ones-requires Inv-loop μ-loop
 ones-requires c κs = search needs
 
--- src/count.rt:22:9
 add-sum : tie.Need-add-sum Inv-loop μ-loop
 add-sum c =
     let ws = c .before .before .before .before .before .args .ws .now in
     let j = c .before .before .before .loop .j in
     omega (arith, count-below-le 32 (bit (word ws j)))
 
--- src/count.rt:23:9
 add-j : tie.Need-add-j Inv-loop μ-loop
 add-j c = search needs
 
--- src/count.rt:21:5
 loop-less : tie.Need-loop-less Inv-loop μ-loop
 loop-less c = search needs
 
--- src/count.rt:21:5
 loop-again : tie.Need-loop-again Inv-loop μ-loop
 loop-again c =
     let ws = c .before .before .before .before .before .args .ws .now in
-    let j = c .before .before .before .loop .j in
-    (search needs, omega (arith, count-below-le 32 (bit (word ws j))),
-    ap₂ _+_ (c .before .before .before .loop .inv .2) (c .ones .ensures) ∙ sym (sum-below-step j (λ k. count-below 32 (bit (word ws k)))))
+    let j = c .before .before .before .loop .j in (
+      search needs,
+      omega (arith, count-below-le 32 (bit (word ws j))),
+      ap₂ _+_ (c .before .before .before .loop .inv .2) (c .ones .ensures) ∙ sym (sum-below-step j (λ k. count-below 32 (bit (word ws k)))),
+    )
 
--- src/count.rt:15:1
 returns : tie.Need-returns Inv-loop μ-loop
 returns c =
     let ws = c .before .before .before .args .ws .now in

@@ -1,3 +1,5 @@
+-- `bitmap::fresh::fresh` meets its contract: zeros with each level padded are the levels of a segment without any block set (FreshLaws).
+-- Assumes nothing.
 use mathlib.Core.Path.{ap, _∙_}
 use borrow.Author.Needs.{needs}
 use Rattle.model.specs.Layout.{record-head}
@@ -5,32 +7,22 @@ use Rattle.bitmap.specs.Tree.{padded-level}
 use Rattle.bitmap.proofs.FreshLaws.{fresh-is}
 use Rattle.bitmap.proofs.fresh.fresh.Statement.{statement}
 use Rattle.bitmap.proofs.fresh.fresh.Tie as tie
-use Rattle.bitmap.proofs.fresh.fresh.Reads as reads
-use Rattle.bitmap.proofs.fresh.fresh.Lts as lts
-use Rattle.bitmap.proofs.fresh.head_only.Reads as head-only-reads
-use Rattle.bitmap.proofs.fresh.pad.Reads as pad-reads
 
--- src/fresh.rt:61:5
 head-only-requires : tie.Need-head-only-requires
 head-only-requires c κs = search needs
 
--- src/fresh.rt:62:5
 pad-requires : tie.Need-pad-requires
 pad-requires c κs = search needs
 
--- src/fresh.rt:63:5
 pad-requires-2 : tie.Need-pad-requires-2
 pad-requires-2 c κs = search needs
 
--- src/fresh.rt:64:5
 pad-requires-3 : tie.Need-pad-requires-3
 pad-requires-3 c κs = search needs
 
--- src/fresh.rt:57:1
 same-length : tie.Need-same-length
 same-length c = search needs
 
--- src/fresh.rt:57:1
 returns : tie.Need-returns
 returns c =
     let third = c .before .before in

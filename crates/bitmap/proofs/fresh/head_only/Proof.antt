@@ -1,3 +1,5 @@
+-- `bitmap::fresh::head_only` meets its contract: of 68 zeros the first is replaced by the head.
+-- Assumes nothing.
 use Prim.Native.Nat.{ℕ}
 use native.Mathlib.Omega.{arith}
 use mathlib.Core.Path.{ap, ap₂, _∙_}
@@ -7,30 +9,21 @@ use borrow.Author.Needs.{needs}
 use Rattle.bitmap.proofs.LevelLaws.{class-high}
 use Rattle.bitmap.proofs.fresh.head_only.Statement.{statement}
 use Rattle.bitmap.proofs.fresh.head_only.Tie as tie
-use Rattle.bitmap.proofs.fresh.head_only.Reads as reads
-use Rattle.bitmap.proofs.fresh.head_only.Lts as lts
-use Rattle.bitmap.proofs.fresh.clear.Reads as clear-reads
-use Rattle.words.proofs.fields.record_head.Reads as record-head-reads
 
--- src/fresh.rt:52:5
 clear-requires : tie.Need-clear-requires
 clear-requires c κs = search needs
 
--- src/fresh.rt:53:14
 record-head-requires : tie.Need-record-head-requires
 record-head-requires c κs =
     let p = c .before .before .before .before .before .pre in
     (omega (arith, class-high (c .before .before .before .before .before .args .class) (p .class)), p .ranked, search needs)
 
--- src/fresh.rt:53:5
 slice-write-rec : tie.Need-slice-write-rec
 slice-write-rec c = search needs
 
--- src/fresh.rt:48:1
 same-length : tie.Need-same-length
 same-length c = search needs
 
--- src/fresh.rt:48:1
 returns : tie.Need-returns
 returns c =
     ap₂ (λ (l : List ℕ) (v : ℕ). set l 0 v)

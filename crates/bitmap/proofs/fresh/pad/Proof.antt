@@ -1,65 +1,51 @@
+-- `bitmap::fresh::pad` meets its contract: a level of no words stays, and any other gets its last word.
+-- Assumes nothing.
 use Prim.Native.Nat.{ℕ}
+use native.Mathlib.Omega.{arith}
 use mathlib.Core.Path.{ap, ap₂, _∙_}
 use lib.ListN.{set}
-use native.Mathlib.Omega.{arith}
 use borrow.Author.Tests.{lt-ltb, le-ltb}
-use Rattle.model.specs.Class.{level-words}
 use borrow.Author.Needs.{needs}
+use Rattle.model.specs.Class.{level-words}
 use Rattle.bitmap.specs.Tree.{padding-word}
 use Rattle.bitmap.proofs.LevelLaws.{class-low, class-high, words-room}
 use Rattle.bitmap.proofs.fresh.pad.Statement.{statement}
 use Rattle.bitmap.proofs.fresh.pad.Tie as tie
-use Rattle.bitmap.proofs.fresh.pad.Reads as reads
-use Rattle.bitmap.proofs.fresh.pad.Lts as lts
-use Rattle.bitmap.proofs.fresh.padding.Reads as padding-reads
-use Rattle.bitmap.proofs.levels.level_end.Reads as level-end-reads
-use Rattle.bitmap.proofs.levels.word_at.Reads as word-at-reads
-use Rattle.words.proofs.class.level_words.Reads as level-words-reads
 
--- src/fresh.rt:39:9
 level-words-requires : tie.Need-level-words-requires
 level-words-requires c κs =
     let i = c .before .args .class in
     (class-low i (c .before .pre .class), class-high i (c .before .pre .class), c .before .pre .level)
 
--- src/fresh.rt:41:9
 returns : tie.Need-returns
 returns c =
     let none = c .before .level-words .ensures in
     rw (le-ltb 0 (level-words (c .before .before .before .args .class) (c .before .before .before .args .level)) (omega arith))
 
--- src/fresh.rt:43:29
 sub-word-at : tie.Need-sub-word-at
 sub-word-at c = search needs
 
--- src/fresh.rt:43:9
 word-at-requires : tie.Need-word-at-requires
 word-at-requires c κs =
     let a = c .before .before .before .args in
     let p = c .before .before .before .pre in
     (p .level, omega (arith, words-room (a .class) (a .level) (p .class) (p .level)))
 
--- src/fresh.rt:44:23
 level-end-requires : tie.Need-level-end-requires
 level-end-requires c κs = search needs
 
--- src/fresh.rt:44:15
 padding-requires : tie.Need-padding-requires
 padding-requires c κs = search needs
 
--- src/fresh.rt:44:5
 mul-rec : tie.Need-mul-rec
 mul-rec c = search needs
 
--- src/fresh.rt:44:5
 slice-write-rec : tie.Need-slice-write-rec
 slice-write-rec c = search needs
 
--- src/fresh.rt:35:1
 same-length : tie.Need-same-length
 same-length c = search needs
 
--- src/fresh.rt:35:1
 returns-2 : tie.Need-returns-2
 returns-2 c =
     let a = c .before .before .before .before .before .before .args in

@@ -1,9 +1,9 @@
 -- `bitmap::levels::level_end` meets its contract: above level 0 the end is the number of words of the level below.
 -- Assumes nothing.
 use Prim.Native.Nat.{ℕ, zero, suc, _-_}
+use native.Mathlib.Omega.{arith}
 use mathlib.Core.Path.{_≡_, refl, _∙_}
 use mathlib.Core.Logic.{_≢_}
-use native.Mathlib.Omega.{arith}
 use borrow.Author.Needs.{needs}
 use Rattle.model.specs.Class.{level-words, level-end}
 use Rattle.bitmap.proofs.LevelLaws.{class-low, class-high}

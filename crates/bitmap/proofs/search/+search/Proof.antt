@@ -51,7 +51,7 @@ free-in-requires t c κs =
       long = start .pre .1 .long;
       level = l<3 (start .pre .1);
       inside = own-room (start .pre .1) (not-end t c);
-      place = search needs
+      place = search needs;
     }
 
 mul-result : (t : ℕ) → lts.Need-mul-result (calls t) (search-at t) reads.Post
@@ -126,7 +126,7 @@ free-in-requires-2 t c κs =
       long = start .pre .1 .long;
       level = l<3 (start .pre .1);
       inside = word-inside t c;
-      place = search needs
+      place = search needs;
     }
 
 add-result-2 : (t : ℕ) → lts.Need-add-result-2 (calls t) (search-at t) reads.Post
