@@ -1,21 +1,21 @@
 -- Setting a bit and climbing where the word has become full leaves the levels of the set with one block more, and every other word as it was.
 -- Assumes nothing.
-use Prim.Native.Nat.{ℕ, zero, suc, _+_, _-_, _*_, _/_, _%_, _^_, _≤_, _<_}
+use Prim.Native.Nat.{ℕ, zero, suc, _+_, _-_, _/_, _%_, _≤_, _<_}
 use native.Mathlib.Omega.{arith}
 use native.Mathlib.Decide.{decLt, ℕ-discrete}
 use native.Mathlib.Nat.{le-refl}
 use native.Mathlib.Numerals.{add-one}
-use mathlib.Core.Path.{_≡_, refl, sym, ap, ap₂, _∙_}
+use mathlib.Core.Path.{_≡_, refl, sym, ap, _∙_}
 use mathlib.Core.Logic.{_≢_, _⊎_, inl, inr}
-use mathlib.Core.Bool.{Bool, true, false, cond, _&&_, _||_, or-true}
-use mathlib.Core.List.{List, [], _∷_, _++_}
-use lib.ListN.{length, getD, set, length-set}
+use mathlib.Core.Bool.{Bool, true, false, cond, _||_, or-true}
+use mathlib.Core.List.{List}
+use lib.ListN.{length, set, length-set}
 use lib.Seq.{getD-set-same, getD-set-other}
-use lib.Dec.{eqb, leb, ltb}
-use borrow.Author.Tests.{lt-ltb, le-ltb, ltb-true, ltb-false, eq-eqb, ne-eqb}
+use lib.Dec.{eqb}
+use borrow.Author.Tests.{eq-eqb, ne-eqb}
 use Rattle.model.specs.Word.{word, bit, full, word-of-bits}
 use Rattle.model.specs.Class.{is-class, level-words, level-end, levels}
-use Rattle.model.specs.Layout.{level-at, level-room, padded-word, level-word}
+use Rattle.model.specs.Layout.{level-at, level-room, level-word}
 use Rattle.laws.proofs.Bits.{bit-word-of-bits, full-bit, full-of-bits}
 use Rattle.bitmap.specs.Tree.{with-level-bit, climbed}
 use Rattle.bitmap.proofs.LevelLaws.{level-set, level-word-is, level-word-lt, level-ext, unused-above, unused-word, level-inside, levels-apart, words-room, words-hold, levels-le, used-level, unused-level, padded-more, padded-other}

@@ -3,7 +3,7 @@
 use Prim.Native.Nat.{ℕ, zero, suc, _+_, _-_, _<_}
 use native.Mathlib.Omega.{arith}
 use native.Mathlib.Decide.{decLt}
-use mathlib.Core.Path.{_≡_, refl, sym, ap, _∙_}
+use mathlib.Core.Path.{_≡_, refl, sym, _∙_}
 use mathlib.Core.Logic.{_≢_}
 use mathlib.Core.Bool.{Bool, true, false, cond}
 use mathlib.Core.List.{List, _∷_}
@@ -18,7 +18,6 @@ use Rattle.model.specs.Layout.{level-at, level-room, level-word, level-rows}
 use Rattle.laws.proofs.Below.{all-below-at}
 use Rattle.bitmap.specs.Tree.{padding-word, padded-level}
 use Rattle.bitmap.proofs.LevelLaws.{at-level, words-room, level-inside, levels-apart}
-use Rattle.bitmap.proofs.ClimbLaws.{Level}
 use Rattle.bitmap.proofs.RecordLaws.{record-is}
 
 -- the words of a level without any bit set: 0, but for the padding in the last that is used

@@ -4,19 +4,16 @@ use Prim.Native.Nat.{ℕ, zero, suc, _+_, _-_, _*_, _/_, _%_, _^_, _≤_, _<_}
 use native.Mathlib.Omega.{arith}
 use native.Mathlib.Decide.{le-ind}
 use mathlib.Core.Path.{_≡_, refl, sym, ap, ap₂, _∙_}
-use mathlib.Core.Logic.{_≢_, _⊎_, inl, inr}
+use mathlib.Core.Logic.{_≢_}
 use mathlib.Core.Bool.{Bool, true, false, cond, _&&_, _||_, or-true}
-use mathlib.Core.List.{List, [], _∷_, _++_}
-use lib.ListN.{length, getD, set}
+use lib.ListN.{set}
 use lib.Dec.{eqb, leb, ltb}
-use borrow.Author.Tests.{lt-ltb, le-ltb, lt-leb, ltb-true, leb-true, leb-false, ltb-false, eq-eqb, ne-eqb, eqb-true, eqb-false}
+use borrow.Author.Tests.{lt-ltb, le-ltb, lt-leb, ltb-true, leb-true, leb-false, eq-eqb, ne-eqb, eqb-true, eqb-false}
 use Rattle.model.specs.Below.{all-below, count-below}
-use Rattle.model.specs.Word.{word, bit, full, word-of-bits}
-use Rattle.model.specs.Class.{is-class, every-class, blocks, level-words, level-end, levels}
-use Rattle.model.specs.Layout.{level-at, level-room, padded-word, level-word, level-rows}
-use Rattle.model.specs.View.{bit-in}
-use Rattle.model.specs.Sound.{levels-right}
-use Rattle.laws.proofs.Below.{all-below-at, all-below-intro}
+use Rattle.model.specs.Word.{bit, full, word-of-bits}
+use Rattle.model.specs.Class.{is-class, every-class, level-words, level-end, levels}
+use Rattle.model.specs.Layout.{level-at, level-room, padded-word, level-word}
+use Rattle.laws.proofs.Below.{all-below-at}
 use Rattle.laws.proofs.Bits.{bit-word-of-bits, word-of-bits-lt, word-of-bits-ext}
 
 -- ---- the ten classes: a test that is computed for all of them, at each of three levels, holds at each

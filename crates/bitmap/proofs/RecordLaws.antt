@@ -1,11 +1,11 @@
 -- A record is its head and its levels; its levels are right exactly if they are those of its class and its level-0 bits, so head, class and
 -- level-0 bits determine a record. Assumes nothing.
-use Prim.Native.Nat.{ℕ, zero, suc, _+_, _-_, _*_, _/_, _%_, _≤_, _<_, zero-le}
+use Prim.Native.Nat.{ℕ, zero, suc, _+_, _-_, _*_, _/_, _%_, _<_, zero-le}
 use native.Mathlib.Omega.{arith}
 use native.Mathlib.Decide.{decLt}
 use mathlib.Core.Path.{_≡_, refl, sym, ap, ap₂, _∙_}
-use mathlib.Core.Bool.{Bool, true, false, _||_}
-use mathlib.Core.List.{List, [], _∷_, _++_}
+use mathlib.Core.Bool.{Bool, true, _||_}
+use mathlib.Core.List.{List, _∷_, _++_}
 use lib.ListN.{length, length-append, List·getD-append}
 use lib.Seq.{getD-append-add, ext-getD}
 use lib.Dec.{eqb, leb}
@@ -18,7 +18,7 @@ use Rattle.model.specs.View.{bit-in}
 use Rattle.model.specs.Sound.{levels-right}
 use Rattle.laws.proofs.Below.{all-below-at, all-below-intro, length-words-below, word-words-below, words-below-ext}
 use Rattle.bitmap.specs.Tree.{SetBit, level-bit, climbed}
-use Rattle.bitmap.proofs.LevelLaws.{level-set, used-level, levels-pos, level-word-is, level-ext, padded-bit, words-hold, words-room, level-inside}
+use Rattle.bitmap.proofs.LevelLaws.{level-set, used-level, levels-pos, level-word-is, level-ext, padded-bit, words-hold, words-room}
 use Rattle.bitmap.proofs.ClimbLaws.{Level, climbed-length, climbed-head, climbed-right}
 
 -- ---- the words of a record that is made of a head and a set

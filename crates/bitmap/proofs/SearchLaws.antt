@@ -1,22 +1,19 @@
 -- The ways out of the search for a free bit, each the first free bit of its level at or after k, or the level's end.
 -- Assumes nothing.
-use Prim.Native.Nat.{ℕ, zero, suc, _+_, _-_, _*_, _/_, _%_, _^_, _≤_, _<_}
+use Prim.Native.Nat.{ℕ, suc, _+_, _-_, _*_, _/_, _%_, _^_, _≤_, _<_}
 use native.Mathlib.Omega.{arith}
-use native.Mathlib.Nat.{le-refl}
 use native.Mathlib.Numerals.{add-one}
 use native.Mathlib.Decide.{decLt, ℕ-discrete}
 use mathlib.Core.Logic.{_≢_}
-use mathlib.Core.Path.{_≡_, refl, sym, ap, _∙_}
+use mathlib.Core.Path.{_≡_, sym, ap, _∙_}
 use mathlib.Core.Bool.{Bool, true, false, not, _||_, true≢false}
 use mathlib.Core.List.{List}
-use lib.Dec.{leb}
 use borrow.Author.Tests.{lt-leb, le-leb, not-true, not-false}
 use Rattle.model.specs.Below.{first-from}
 use Rattle.model.specs.Word.{word, bit, full}
-use Rattle.model.specs.Class.{is-class, level-words, level-end, levels}
+use Rattle.model.specs.Class.{level-words, level-end}
 use Rattle.model.specs.Layout.{level-at, level-room, level-word}
 use Rattle.model.specs.View.{bit-in}
-use Rattle.model.specs.Sound.{levels-right}
 use Rattle.laws.proofs.Below.{First, first-is, first-unique}
 use Rattle.laws.proofs.Bits.{full-bit, free-bit}
 use Rattle.bitmap.specs.Tree.{Search, level-bit}

@@ -5,7 +5,6 @@ ghost use mathlib.Core.List.{_∷_};
 ghost use Prim.Native.Nat.{_+_, _/_, _<_};
 ghost use lib.Dec.{eqb};
 ghost use Rattle.model.specs.Word.{word, full};
-ghost use Rattle.model.specs.Class.{blocks};
 ghost use Rattle.model.specs.Layout.{level-at, level-rows};
 ghost use Rattle.model.specs.View.{bit-in};
 ghost use Rattle.bitmap.specs.Tree.{BitOf, SetBit, with-level-bit, climbed};

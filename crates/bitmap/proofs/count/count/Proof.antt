@@ -4,12 +4,11 @@ use Prim.Native.Nat.{ℕ, _+_, _-_, _/_}
 use native.Mathlib.Omega.{arith}
 use mathlib.Core.Path.{_≡_, sym, ap, _∙_}
 use lib.ListN.{length-take, length-drop}
-use lib.Pow.{pow-pos}
 use borrow.Author.Needs.{needs}
 use Rattle.model.specs.Below.{count-below}
 use Rattle.model.specs.Class.{blocks}
+use Rattle.model.specs.Word.{bit}
 use Rattle.model.specs.View.{bit-in}
-use Rattle.laws.proofs.Bits.{shl-one}
 use Rattle.words.proofs.ClassLaws.{blocks-most}
 use Rattle.bitmap.proofs.LevelLaws.{class-high}
 use Rattle.bitmap.proofs.CountLaws.{count-in-word, count-in-part, whole-words}
@@ -19,24 +18,23 @@ use Rattle.bitmap.proofs.count.count.Tie as tie
 blocks-requires : tie.Need-blocks-requires
 blocks-requires c κs = omega (arith, class-high (c .before .args .class) (c .before .pre .class))
 
-shared-slice-read-ones : tie.Need-shared-slice-read-ones
-shared-slice-read-ones c = search needs
+shared-slice-read-low-bits : tie.Need-shared-slice-read-low-bits
+shared-slice-read-low-bits c = search needs
 
-shl-ones : tie.Need-shl-ones
-shl-ones c = search needs
-
-rem-ones : tie.Need-rem-ones
-rem-ones c = rw (shl-one (c .before .before .blocks2 .result) (c .before .if1 .taken)) (pow-pos (c .before .before .blocks2 .result))
+low-bits-requires : tie.Need-low-bits-requires
+low-bits-requires c κs = search needs
 
 ones-requires : tie.Need-ones-requires
 ones-requires c κs = search needs
 
 returns : tie.Need-returns
 returns c =
-    let rec = c .before .before .before .before .before .args .rec .now in
-    let n = c .before .before .before .blocks2 .result in
-    let few = c .before .before .if1 .taken in
-    rw (shl-one n few) at (c .ones .ensures) ∙ count-in-word rec n few ∙ ap (λ (n : ℕ). count-below n (bit-in rec)) (c .before .before .before .blocks2 .ensures)
+    let rec = c .before .before .before .before .before .before .args .rec .now in
+    let n = c .before .before .before .before .blocks2 .result in
+    c .ones .ensures
+    ∙ ap (λ (w : ℕ). count-below 32 (bit w)) (c .before .low-bits .ensures)
+    ∙ count-in-word rec n (c .before .before .before .if1 .taken)
+    ∙ ap (λ (n : ℕ). count-below n (bit-in rec)) (c .before .before .before .before .blocks2 .ensures)
 
 wide-requires : tie.Need-wide-requires
 wide-requires c κs = search needs
@@ -73,9 +71,8 @@ count-spec =
     tie.close
     (tie.spec
     blocks-requires
-    shared-slice-read-ones
-    shl-ones
-    rem-ones
+    shared-slice-read-low-bits
+    low-bits-requires
     ones-requires
     returns
     wide-requires
