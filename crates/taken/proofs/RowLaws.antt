@@ -2,25 +2,27 @@
 -- Assumes nothing.
 use Prim.Native.Nat.{ℕ, _+_, _-_, _*_, _/_, _%_, _^_, _≤_, _<_}
 use mathlib.Core.Path.{_≡_, refl, sym, ap, ap₂, _∙_}
-use mathlib.Core.Bool.{Bool, true, false, not, _&&_, _||_, and-comm, and-false}
+use mathlib.Core.Bool.{Bool, true, false, not, _&&_, _||_, and-comm, and-false, or-true, or-false}
 use mathlib.Core.List.{List}
+use native.Mathlib.Nat.{add-zero}
 use native.Mathlib.Omega.{arith}
 use lib.Dec.{eqb, ltb}
 use lib.ListN.{length, set, length-set}
 use lib.Seq.{getD-set-same, getD-set-other}
 use lib.Bits.{bitAnd, bitOr, or-lt, and-lt}
 use lib.Pow.{shr-le}
+use mir.Val.{boolByte}
 use borrow.Author.Count.{below-more}
-use borrow.Author.Tests.{lt-ltb, le-ltb, eq-eqb, ne-eqb, ltb-true, ltb-false}
+use borrow.Author.Tests.{lt-ltb, le-ltb, eq-eqb, ne-eqb, ltb-true, ltb-false, eqb-true, eqb-false}
 use Rattle.model.specs.Below.{count-below}
 use Rattle.model.specs.Word.{word, bit, ones, word-of-bits}
 use Rattle.model.specs.Class.{is-class, blocks}
 use Rattle.model.specs.Layout.{arena-length, record-at}
 use Rattle.model.specs.View.{segments, place-rank, place-index, record-of, class, rank, bit-of}
 use Rattle.model.specs.Standing.{in-pool, is-block, before-place, taken-at, is-taken, none-or-taken, taken-count}
-use Rattle.laws.proofs.Below.{count-below-ext}
+use Rattle.laws.proofs.Below.{count-below-ext, count-below-add}
 use Rattle.laws.proofs.Splice.{length-part}
-use Rattle.laws.proofs.Bits.{bit-zero, bit-ones, bit-past, bit-shift, bit-and, bit-or, bit-word-of-bits, word-of-bits-lt, word-of-bits-ext, word-ext}
+use Rattle.laws.proofs.Bits.{bit-zero, bit-low, bit-ones, bit-past, bit-shift, bit-and, bit-or, bit-word-of-bits, word-of-bits-lt, word-of-bits-ext, word-ext}
 use Rattle.taken.specs.Row.{row-bit, TakenRow, row-taken, row-none-or-taken, Limit, row-word, Filled, Fill, taken-word, Segment}
 
 -- ---- the word of the ones below a limit
@@ -69,9 +71,9 @@ taken-word-is w limit blocks j h =
     word-ext (bitAnd (bitOr v w) u) (word-of-bits e)
     (and-lt 32 (bitOr v w) u (or-lt 32 v w (word-of-bits-lt f) h) (word-of-bits-lt g)) (word-of-bits-lt e)
     (λ b l.
-      bit-and (bitOr v w) u b
-      ∙ ap₂ _&&_ (bit-or v w b ∙ ap (λ (t : Bool). t || bit w b) (bit-word-of-bits f b l)) (bit-word-of-bits g b l)
-      ∙ sym (bit-word-of-bits e b l))
+    bit-and (bitOr v w) u b
+    ∙ ap₂ _&&_ (bit-or v w b ∙ ap (λ (t : Bool). t || bit w b) (bit-word-of-bits f b l)) (bit-word-of-bits g b l)
+    ∙ sym (bit-word-of-bits e b l))
 
 -- ---- the limit of a segment
 
@@ -194,3 +196,95 @@ filled-taken {ws} {row} f = record {
       ∙ ap₂ (taken-at ws) (omega arith) (omega arith)
       ∙ sym (is-taken-at ws x);
 }
+
+-- ---- asking a row
+
+module _ (row : List ℕ) (N h : ℕ) where
+  pub row-taken-none : h ≡ 0 → row-taken row N h ≡ false
+  row-taken-none e = rw (eq-eqb h 0 e)
+
+  pub row-taken-past : 2048 * N ≤ h - 1 → row-taken row N h ≡ false
+  row-taken-past l = rw (le-ltb (h - 1) (2048 * N) l) (and-false (not (eqb h 0)))
+
+  pub row-taken-inside : (h ≡ 0 → ⊥) → h - 1 < 2048 * N → row-taken row N h ≡ row-bit row (h - 1)
+  row-taken-inside f l = rw (ne-eqb h 0 f, lt-ltb (h - 1) (2048 * N) l)
+
+-- a handle behind the last segment is not taken
+past-not-taken : (ws : List ℕ) (x : ℕ) → 2048 * segments ws ≤ x → is-taken ws (x + 1) ≡ false
+unfolding taken-at is-block
+past-not-taken ws x l = is-taken-at ws x ∙ rw (le-ltb (x / 2048) (segments ws) (omega arith))
+
+-- the row of an arena tells of every handle whether it is that of a taken block
+pub row-taken-is : {ws row : List ℕ} {N : ℕ} → TakenRow ws row → segments ws ≡ N → (h : ℕ) → row-taken row N h ≡ is-taken ws h
+unfolding is-taken
+row-taken-is {ws} {row} {N} t e h = go (eqb h 0) refl (ltb (h - 1) (2048 * N)) refl
+  where
+    go : (z : Bool) → eqb h 0 ≡ z → (u : Bool) → ltb (h - 1) (2048 * N) ≡ u → row-taken row N h ≡ is-taken ws h
+    go true z u p = row-taken-none row N h (eqb-true h 0 z) ∙ rw z
+    go false z true p =
+        let some = eqb-false h 0 z in
+        let inside = ltb-true (h - 1) (2048 * N) p in
+        let back : h - 1 + 1 ≡ h = omega arith in
+        row-taken-inside row N h some inside ∙ t .taken (h - 1) (omega arith) ∙ ap (is-taken ws) back
+    go false z false p =
+        let some = eqb-false h 0 z in
+        let past = ltb-false (h - 1) (2048 * N) p in
+        let back : h ≡ h - 1 + 1 = omega arith in
+        row-taken-past row N h past ∙ sym (ap (is-taken ws) back ∙ past-not-taken ws (h - 1) (omega arith))
+
+pub row-none-or-taken-is : {ws row : List ℕ} {N : ℕ} → TakenRow ws row → segments ws ≡ N → (h : ℕ) → row-none-or-taken row N h ≡ none-or-taken ws h
+row-none-or-taken-is t e h = ap (λ (u : Bool). eqb h 0 || u) (row-taken-is t e h)
+
+-- its count of ones is the number of taken blocks
+pub row-count : {ws row : List ℕ} {N : ℕ} → TakenRow ws row → segments ws ≡ N → count-below (2048 * N) (row-bit row) ≡ taken-count ws
+unfolding taken-count
+row-count {ws} {row} t e =
+    ap (λ (n : ℕ). count-below (2048 * n) (row-bit row)) (sym e)
+    ∙ count-below-ext (2048 * segments ws) (row-bit row) (λ x. is-taken ws (x + 1)) (t .taken)
+
+-- the ones of one word more
+pub count-word : (row : List ℕ) (o : ℕ) → count-below (32 * (o + 1)) (row-bit row) ≡ count-below (32 * o) (row-bit row) + count-below 32 (bit (word row o))
+count-word row o =
+    ap (λ (n : ℕ). count-below n (row-bit row)) (omega arith)
+    ∙ count-below-add (32 * o) 32 (row-bit row)
+    ∙ ap (λ (c : ℕ). count-below (32 * o) (row-bit row) + c)
+    (count-below-ext 32 (λ k. row-bit row (32 * o + k)) (bit (word row o))
+    (λ k l. ap₂ (λ (p b : ℕ). bit (word row p) b) (omega arith) (omega arith)))
+
+-- `let none = (h == 0) as u32; let x = h + none - 1;`: the position that is asked
+module _ (h : ℕ) where
+  pub asked-some : 1 ≤ h + boolByte (eqb h 0)
+  asked-some = go (eqb h 0) refl
+    where
+      go : (t : Bool) → eqb h 0 ≡ t → 1 ≤ h + boolByte t
+      go true e = omega arith
+      go false e = omega (arith, eqb-false h 0 e)
+
+  pub asked-fits : h < 2 ^ 32 → h + boolByte (eqb h 0) < 2 ^ 32
+  asked-fits l = go (eqb h 0) refl
+    where
+      go : (t : Bool) → eqb h 0 ≡ t → h + boolByte t < 2 ^ 32
+      go true e = omega (arith, eqb-true h 0 e)
+      go false e = omega arith
+
+module _ (row : List ℕ) (N h : ℕ) where
+  pub asked-past : 1 ≤ N → 2048 * N ≤ h + boolByte (eqb h 0) - 1 → row-none-or-taken row N h ≡ false
+  asked-past p = go (eqb h 0) refl
+    where
+      go : (t : Bool) → eqb h 0 ≡ t → 2048 * N ≤ h + boolByte t - 1 → (t || row-taken row N h) ≡ false
+      go true e l = absurd (omega (arith, eqb-true h 0 e))
+      go false e l = row-taken-past row N h (omega arith)
+
+  pub asked-inside : (x : ℕ) → x ≡ h + boolByte (eqb h 0) - 1 → x < 2048 * N
+      → eqb (bitOr (word row (x / 32) / 2 ^ (x % 32)) (boolByte (eqb h 0)) % 2) 1 ≡ row-none-or-taken row N h
+  asked-inside x e l =
+      sym (bit-low (bitOr (word row (x / 32) / 2 ^ (x % 32)) (boolByte (eqb h 0))))
+      ∙ bit-or (word row (x / 32) / 2 ^ (x % 32)) (boolByte (eqb h 0)) 0
+      ∙ ap (λ (t : Bool). t || bit (boolByte (eqb h 0)) 0) (bit-shift (word row (x / 32)) (x % 32) 0 ∙ ap (bit (word row (x / 32))) (add-zero (x % 32)))
+      ∙ go (eqb h 0) refl e
+    where
+      go : (t : Bool) → eqb h 0 ≡ t → x ≡ h + boolByte t - 1 → (row-bit row x || bit (boolByte t) 0) ≡ (t || row-taken row N h)
+      go true z u = or-true (row-bit row x)
+      go false z u =
+          let same : x ≡ h - 1 = omega arith in
+          or-false (row-bit row x) ∙ ap (row-bit row) same ∙ sym (row-taken-inside row N h (eqb-false h 0 z) (omega arith))

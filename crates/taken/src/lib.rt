@@ -5,4 +5,5 @@
 // a handle is 0 or that of a taken block asks one bit of this row, and the number of taken blocks is its count
 // of ones.
 
+pub mod ask;
 pub mod row;

@@ -1,37 +1,30 @@
-use native.Mathlib.Omega.{arith}
+-- `taken::row::below` meets its contract: none, all or some of the 32 bits lie below the limit.
+-- Assumes nothing.
 use Prim.Native.Nat.{_*_}
+use native.Mathlib.Omega.{arith}
 use borrow.Author.Needs.{needs}
 use Rattle.taken.proofs.RowLaws.{none-below, all-below, some-below}
 use Rattle.taken.proofs.row.below.Statement.{statement}
 use Rattle.taken.proofs.row.below.Tie as tie
-use Rattle.taken.proofs.row.below.Reads as reads
-use Rattle.taken.proofs.row.below.Lts as lts
 
--- src/row.rt:28:16
 mul-from : tie.Need-mul-from
 mul-from c = search needs
 
--- src/row.rt:30:9
 returns : tie.Need-returns
 returns c = none-below (32 * c .before .args .j) (c .before .args .limit) (omega arith)
 
--- src/row.rt:32:16
 sub-left : tie.Need-sub-left
 sub-left c = search needs
 
--- src/row.rt:34:9
 returns-2 : tie.Need-returns-2
 returns-2 c = all-below (32 * c .before .before .args .j) (c .before .before .args .limit) (omega arith)
 
--- src/row.rt:36:21
 sub-result : tie.Need-sub-result
 sub-result c = search needs
 
--- src/row.rt:36:5
 shr-result : tie.Need-shr-result
 shr-result c = search needs
 
--- src/row.rt:24:1
 returns-3 : tie.Need-returns-3
 returns-3 c = some-below (32 * c .before .before .args .j) (c .before .before .args .limit) (omega arith) (omega arith)
 

@@ -1,17 +1,14 @@
+-- `taken::row::fill_words` meets its contract. The loop's invariant: the first j words are filled.
+-- Assumes nothing.
 use Prim.Native.Nat.{ℕ, _+_, _≤_, _-_}
 use native.Mathlib.Omega.{arith}
 use mathlib.Core.Path.{_≡_, ap, _∙_}
-use lib.ListN.{length}
 use borrow.Author.Needs.{needs}
-use Rattle.taken.specs.Row.{taken-word, Segment}
 use Rattle.model.specs.Word.{word}
+use Rattle.taken.specs.Row.{taken-word, Segment}
 use Rattle.taken.proofs.RowLaws.{segment-step}
 use Rattle.taken.proofs.row.fill_words.Statement.{statement}
 use Rattle.taken.proofs.row.fill_words.Tie as tie
-use Rattle.taken.proofs.row.fill_words.Reads as reads
-use Rattle.taken.proofs.row.fill_words.Lts as lts
-use Rattle.arena.proofs.wide.Reads as wide-reads
-use Rattle.taken.proofs.row.taken_word.Reads as taken-word-reads
 
 abbrev Inv-loop : tie.InvT-loop
 Inv-loop rec limit blocks row₀ at j₀ row j = (j ≤ 64) × Segment rec limit blocks row₀ row at j
@@ -19,60 +16,48 @@ Inv-loop rec limit blocks row₀ at j₀ row j = (j ≤ 64) × Segment rec limit
 abbrev μ-loop : tie.MeasureT-loop
 μ-loop rec limit blocks row₀ at j₀ row j = 64 - j
 
--- src/row.rt:70:5
 loop-holds : tie.Need-loop-holds Inv-loop μ-loop
 loop-holds c = search needs
 
--- src/row.rt:71:13
 wide-requires : tie.Need-wide-requires Inv-loop μ-loop
 wide-requires c κs = search needs
 
--- src/row.rt:72:38
 add-taken-word : tie.Need-add-taken-word Inv-loop μ-loop
 add-taken-word c = search needs
 
--- src/row.rt:72:34
 mul-taken-word : tie.Need-mul-taken-word Inv-loop μ-loop
 mul-taken-word c = search needs
 
--- src/row.rt:72:34
 shared-slice-read-taken-word : tie.Need-shared-slice-read-taken-word Inv-loop μ-loop
 shared-slice-read-taken-word c = search needs
 
--- src/row.rt:72:23
 taken-word-requires : tie.Need-taken-word-requires Inv-loop μ-loop
 taken-word-requires c κs = search needs
 
--- src/row.rt:72:13
 add-row : tie.Need-add-row Inv-loop μ-loop
 add-row c = search needs
 
--- src/row.rt:72:9
 mul-row : tie.Need-mul-row Inv-loop μ-loop
 mul-row c = search needs
 
--- src/row.rt:72:9
 element-write-row : tie.Need-element-write-row Inv-loop μ-loop
 element-write-row c = search needs
 
--- src/row.rt:73:9
 add-j : tie.Need-add-j Inv-loop μ-loop
 add-j c = search needs
 
--- src/row.rt:70:5
 loop-less : tie.Need-loop-less Inv-loop μ-loop
 loop-less c = search needs
 
--- src/row.rt:70:5
 loop-again : tie.Need-loop-again Inv-loop μ-loop
 loop-again c =
     let a = c .before .before .before .before .before .before .args in
-    let same = c .before .before .wide .ensures in
-    (search needs,
-    segment-step _ _ (c .before .before .before .before .loop .inv .1) (ap (λ (x : ℕ). a .at + x) same) (search needs)
-    (c .taken-word .ensures ∙ ap (λ (x : ℕ). taken-word (word (a .rec .now) (1 + x)) (a .limit) (a .blocks) (c .before .before .before .before .loop .j)) same))
+    let same = c .before .before .wide .ensures in (
+      search needs,
+      segment-step _ _ (c .before .before .before .before .loop .inv .1) (ap (λ (x : ℕ). a .at + x) same) (search needs)
+          (c .taken-word .ensures ∙ ap (λ (x : ℕ). taken-word (word (a .rec .now) (1 + x)) (a .limit) (a .blocks) (c .before .before .before .before .loop .j)) same),
+    )
 
--- src/row.rt:65:1
 returns : tie.Need-returns Inv-loop μ-loop
 returns c =
     let end : c .before .loop .j ≡ 64 = omega arith in

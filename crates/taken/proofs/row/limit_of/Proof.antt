@@ -1,21 +1,15 @@
+-- `taken::row::limit_of` meets its contract: the rank is below the place's, the place's own, or behind it.
+-- Assumes nothing.
 use Prim.Native.Nat.{ℕ}
 use native.Mathlib.Omega.{arith}
+use mathlib.Core.Path.{_≡_, ap, _∙_}
+use borrow.Author.Needs.{needs}
 use Rattle.model.specs.Word.{word, field}
 use Rattle.model.specs.Layout.{place-at}
-use mathlib.Core.Path.{_≡_, ap, _∙_}
-use Rattle.model.specs.Class.{blocks}
 use Rattle.model.specs.View.{place-rank, place-index, class, rank}
-use borrow.Author.Needs.{needs}
 use Rattle.taken.proofs.RowLaws.{limit-before, limit-at, limit-behind}
 use Rattle.taken.proofs.row.limit_of.Statement.{statement}
 use Rattle.taken.proofs.row.limit_of.Tie as tie
-use Rattle.taken.proofs.row.limit_of.Reads as reads
-use Rattle.taken.proofs.row.limit_of.Lts as lts
-use Rattle.arena.proofs.place_of.Reads as place-of-reads
-use Rattle.arena.proofs.rank.Reads as rank-reads
-use Rattle.words.proofs.class.blocks.Reads as blocks-reads
-use Rattle.words.proofs.fields.place_index.Reads as place-index-reads
-use Rattle.words.proofs.fields.place_rank.Reads as place-rank-reads
 
 -- the place and the rank that were read are those of the segment
 at-place : (c : tie.After-place-rank)
@@ -24,23 +18,18 @@ at-place c =
     let a = c .before .before .before .before .args in
     c .before .before .place-of .ensures ∙ ap (λ (i : ℕ). word (a .arena .now) (place-at i)) (c .before .before .before .before .pre .class)
 
--- src/row.rt:52:9
 place-of-requires : tie.Need-place-of-requires
 place-of-requires c κs = search needs
 
--- src/row.rt:53:9
 rank-requires : tie.Need-rank-requires
 rank-requires c κs = search needs
 
--- src/row.rt:54:9
 place-rank-requires : tie.Need-place-rank-requires
 place-rank-requires c κs = search needs
 
--- src/row.rt:56:9
 blocks-requires : tie.Need-blocks-requires
 blocks-requires c κs = search needs
 
--- src/row.rt:56:9
 returns : tie.Need-returns
 returns c =
     let a = c .before .before .before .before .before .before .args in
@@ -49,11 +38,9 @@ returns c =
     rw (c .blocks2 .ensures, p .class)
     (limit-before (a .arena .now) (a .s) (omega (arith, c .before .if1 .taken, c .before .before .before .rank .ensures, first)))
 
--- src/row.rt:59:9
 place-index-requires : tie.Need-place-index-requires
 place-index-requires c κs = search needs
 
--- src/row.rt:59:9
 returns-2 : tie.Need-returns-2
 returns-2 c =
     let a = c .before .before .before .before .before .before .before .args in
@@ -62,7 +49,6 @@ returns-2 c =
     rw (c .place-index .ensures, at-place place)
     (limit-at (a .arena .now) (a .s) (omega (arith, c .before .if2 .taken, place .before .rank .ensures, first)))
 
--- src/row.rt:48:1
 returns-3 : tie.Need-returns-3
 returns-3 c =
     let a = c .before .before .before .before .before .before .args in

@@ -1,23 +1,19 @@
-use borrow.Author.Needs.{needs}
+-- `taken::row::taken_word` meets its contract: the two words have the same bits.
+-- Assumes nothing.
 use Prim.Native.Nat.{ℕ}
 use mathlib.Core.Path.{ap₂, _∙_}
 use lib.Bits.{bitAnd, bitOr}
+use borrow.Author.Needs.{needs}
 use Rattle.taken.proofs.RowLaws.{taken-word-is}
 use Rattle.taken.proofs.row.taken_word.Statement.{statement}
 use Rattle.taken.proofs.row.taken_word.Tie as tie
-use Rattle.taken.proofs.row.taken_word.Reads as reads
-use Rattle.taken.proofs.row.taken_word.Lts as lts
-use Rattle.taken.proofs.row.below.Reads as below-reads
 
--- src/row.rt:44:6
 below-requires : tie.Need-below-requires
 below-requires c κs = search needs
 
--- src/row.rt:44:29
 below-requires-2 : tie.Need-below-requires-2
 below-requires-2 c κs = search needs
 
--- src/row.rt:40:1
 returns : tie.Need-returns
 returns c =
     let a = c .before .before .args in
