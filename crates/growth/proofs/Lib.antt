@@ -1,3 +1,5 @@
 pub mod Given
 pub mod Giving
 pub mod Joining
+pub mod After
+pub mod Taken
