@@ -6,6 +6,8 @@ use mathlib.Core.Path.{_≡_, refl, sym, ap, _∙_, subst}
 use mathlib.Core.Bool.{Bool, true, false, not, cond, _||_}
 use mathlib.Core.List.{List}
 use native.Mathlib.Omega.{arith}
+use native.Mathlib.Nat.{le-antisymm}
+use native.Mathlib.Decide.{decLt}
 use lib.Dec.{eqb, ltb}
 use borrow.Author.Tests.{ltb-true, ltb-false, lt-ltb, le-ltb, not-true, not-false}
 use Rattle.model.specs.Class.{is-class, blocks, class-of}
@@ -16,7 +18,7 @@ use Rattle.laws.proofs.Below.{First, first-is}
 use Rattle.words.proofs.ClassLaws.{class-bounds}
 use Rattle.soundness.proofs.Tests.{never, either, not-passed}
 use Rattle.soundness.proofs.Facts.{Member, Block, Sound, taken-block}
-use Rattle.soundness.proofs.Ranks.{rank-below, ranked-class, ranked-rank, ranked-member, ranked-unique, first-found}
+use Rattle.soundness.proofs.Ranks.{rank-below, rank-apart, ranked-class, ranked-rank, ranked-member, ranked-unique, first-found}
 
 -- ---- the first untaken block of a segment
 
@@ -147,3 +149,44 @@ first-untaken-is ws sound i c t =
           none-untaken ws t (ap (has-untaken ws) (sym same) ∙ before-first-rank ws i (rank ws t) l) j (b .inside);
       before = taken-before-first ws s;
     }
+
+-- there is one such block, so it is the one that is given; and where there is one the class has an untaken block
+pub record SameBlock (s q k s′ q′ k′ : ℕ) : Type 0 where
+  pub same-segment : s ≡ s′
+  pub same-rank : q ≡ q′
+  pub same-index : k ≡ k′
+
+module _ (ws : List ℕ) (sound : Sound ws) (i : ℕ) (c : is-class i ≡ true) where
+  -- an untaken block's rank is not below that of the first
+  not-earlier : {s q k s′ q′ k′ : ℕ} → FirstUntaken ws i s q k → FirstUntaken ws i s′ q′ k′ → q′ ≤ q
+  not-earlier {s} {q} {k} {s′} {q′} {k′} x y = go (decLt q q′)
+    where
+      go : Dec (q < q′) → q′ ≤ q
+      go (yes l) =
+          let b : Block ws s k = record { member = x .member; inside = omega (arith, x .inside, ap blocks (x .its-class)) } in
+          never (taken-at ws s k) (y .earlier s k b (x .its-class) (omega (arith, x .its-rank))) (x .untaken)
+      go (no f) = omega (arith, f)
+
+  not-before : {s q k k′ : ℕ} → FirstUntaken ws i s q k → FirstUntaken ws i s q k′ → k′ ≤ k
+  not-before {s} {q} {k} {k′} x y = go (decLt k k′)
+    where
+      go : Dec (k < k′) → k′ ≤ k
+      go (yes l) = never (taken-at ws s k) (y .before k l) (x .untaken)
+      go (no f) = omega (arith, f)
+
+  pub first-untaken-unique : {s q k s′ q′ k′ : ℕ} → FirstUntaken ws i s q k → FirstUntaken ws i s′ q′ k′ → SameBlock s q k s′ q′ k′
+  first-untaken-unique {s} {q} {k} {s′} {q′} {k′} x y =
+      let by-rank : q ≡ q′ = le-antisymm (not-earlier y x) (not-earlier x y) in
+      let by-segment : s ≡ s′ = rank-apart ws sound s s′ (x .member) (y .member) (x .its-class ∙ sym (y .its-class)) (x .its-rank ∙ by-rank ∙ sym (y .its-rank)) in
+      let z : FirstUntaken ws i s q k′ =
+      subst (λ (t : ℕ). FirstUntaken ws i t q k′) (sym by-segment) (subst (λ (p : ℕ). FirstUntaken ws i s′ p k′) (sym by-rank) y) in
+      record { same-segment = by-segment; same-rank = by-rank; same-index = le-antisymm (not-before z x) (not-before x z) }
+
+  pub first-untaken-has : {s q k : ℕ} → FirstUntaken ws i s q k → class-has-untaken ws i ≡ true
+  first-untaken-has {s} {q} {k} x = go (class-has-untaken ws i) refl
+    where
+      go : (t : Bool) → class-has-untaken ws i ≡ t → t ≡ true
+      go true e = refl
+      go false e =
+          let b : Block ws s k = record { member = x .member; inside = omega (arith, x .inside, ap blocks (x .its-class)) } in
+          never (taken-at ws s k) (class-all-taken ws sound i c e s k b (x .its-class)) (x .untaken)

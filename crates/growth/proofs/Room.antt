@@ -156,13 +156,30 @@ module _ (ws : List ℕ) (sound-ws : Sound ws) (i : ℕ) (c : is-class i ≡ tru
           )
           )
 
-  -- a joining segment's room is its blocks less one
+  pub full-iff-room : (class-has-untaken ws i ≡ false) ↔ (room ws i ≡ 0)
+  full-iff-room = (full-room, room-full)
+
+  -- and exactly if every block of every segment of the class is taken
+  pub full-iff-taken : (class-has-untaken ws i ≡ false) ↔ ((s k : ℕ) → Block ws s k → class ws s ≡ i → taken-at ws s k ≡ true)
+  full-iff-taken = (class-all-taken ws sound-ws i c, all-taken-class ws sound-ws i c)
+
+  -- a class with an untaken block has room
   pub room-some : class-has-untaken ws i ≡ true → 0 < room ws i
   room-some t = go (decLt 0 (room ws i))
     where
       go : Dec (0 < room ws i) → 0 < room ws i
       go (yes l) = l
       go (no f) = never (class-has-untaken ws i) t (room-full (omega (arith, f)))
+
+-- there is no segment to join exactly if none is in the pool
+pub empty-pool : (ws : List ℕ) → (has-pool ws ≡ false) ↔ ((s : ℕ) → s < segments ws → in-pool ws s ≡ false)
+empty-pool ws = (no-pool ws, none-in-pool ws)
+
+-- where a segment joined, the room before was 0, so the room after is the new segment's blocks less one
+pub room-joined-blocks : (ws : List ℕ) (n r tag : ℕ) → Grant ws n r tag → class-has-untaken ws (class-of n) ≡ false
+    → room (allocated ws n r tag) (class-of n) + 1 ≡ blocks (class-of n)
+room-joined-blocks ws n r tag g f =
+    omega (arith, room-joined ws n r tag g f, full-room ws (g .sound-before) (class-of n) (class-right ws n r tag g) f)
 
 -- no segment of class i has an untaken block, and no segment is in the pool
 pub record NoRoom (ws : List ℕ) (i : ℕ) : Type 0 where
@@ -214,3 +231,6 @@ module _ (ws : List ℕ) (n r : ℕ) where
       let full : class-has-untaken ws (class-of n) ≡ false = all-taken-class ws (x .is-sound) (class-of n) (class-small n (x .small)) (x .none .all-taken) in
       let nothing : some ≡ false = or-fails (class-has-untaken ws (class-of n)) (has-pool ws) full (none-in-pool ws (x .none .no-segment)) in
       simp (sound-is, shape-is, nothing)
+
+  pub refused-iff : (allocate-refusal ws n r ≡ 4) ↔ Refused
+  refused-iff = (refused-facts, facts-refused)
