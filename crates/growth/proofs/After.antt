@@ -1,16 +1,15 @@
 -- The arena after a granted allocation, view by view: the given block has its header and zeros, its class's place stands behind it, a segment
 -- that joined has a fresh record, and everything else is as before.
 -- Assumes nothing.
-use Prim.Native.Nat.{ℕ, suc, _+_, _-_, _≤_, _<_}
+use Prim.Native.Nat.{ℕ, _+_, _-_, _≤_, _<_}
 use mathlib.Core.Path.{_≡_, refl, sym, ap, ap₂, _∙_, subst}
 use mathlib.Core.Logic.{_⊎_, inl, inr, _≢_}
-use mathlib.Core.Bool.{Bool, true, false, not, cond, _&&_, _||_, false≢true}
+use mathlib.Core.Bool.{Bool, true, false, not, _||_}
 use mathlib.Core.List.{List, [], _∷_}
 use native.Mathlib.Omega.{arith}
-use native.Mathlib.Decide.{ℕ-discrete}
 use lib.ListN.{length, replicate, length-replicate}
 use lib.Dec.{eqb, ltb}
-use borrow.Author.Tests.{eqb-true, eq-eqb, ne-eqb, ltb-false, not-false}
+use borrow.Author.Tests.{ltb-false, not-false}
 use Rattle.model.specs.Below.{first-below}
 use Rattle.model.specs.Word.{word, put, field}
 use Rattle.model.specs.Class.{is-class, blocks, block-words, class-of}
@@ -24,10 +23,10 @@ use Rattle.laws.proofs.Below.{first-ext}
 use Rattle.words.proofs.ClassLaws.{class-bounds, class-small, block-least}
 use Rattle.soundness.proofs.Tests.{never, either, or-else, or-fails-left, or-fails-right}
 use Rattle.soundness.proofs.Facts.{Member, Block, Sized, Sound, sound-facts, class-member}
-use Rattle.soundness.proofs.Views.{SameRecords, same-segments, same-class, same-rank, same-pool, same-members}
-use Rattle.growth.proofs.Given.{FirstUntaken, first-untaken-is, first-pool-below, first-pool-in, before-first-pool}
+use Rattle.soundness.proofs.Views.{SameRecords, same-class, same-rank, same-pool, same-members}
+use Rattle.growth.proofs.Given.{FirstUntaken, SameBlock, first-untaken-is, first-untaken-has, first-untaken-unique, first-pool-below, first-pool-in, before-first-pool}
 use Rattle.growth.proofs.Giving.{give, Gave, gave, new-rank-is, new-index-is}
-use Rattle.growth.proofs.Joining.{fresh-record, joined-length, joined-head, joined-segments, joined-place, joined-record, joined-other, joined-block, joined-class, joined-members, joined-members-other, sound-joined, joined-first}
+use Rattle.growth.proofs.Joining.{fresh-record, joined-length, joined-head, joined-place, joined-record, joined-other, joined-block, joined-members, joined-members-other, sound-joined, joined-first}
 
 -- ---- a granted allocation
 
@@ -85,6 +84,18 @@ module _ (ws : List ℕ) (i : ℕ) (t : class-has-untaken ws i ≡ true) where
   pub held-index : given-index ws i ≡ first-untaken ws (ranked ws i (first-rank ws i))
   unfolding given-index
   held-index = rw t
+
+-- the first untaken block of the class is the one that is given
+pub given-is : (ws : List ℕ) → Sound ws → (i : ℕ) → is-class i ≡ true → {s q k : ℕ} → FirstUntaken ws i s q k
+    → SameBlock (given-segment ws i) (given-rank ws i) (given-index ws i) s q k
+given-is ws z i c x =
+    let t : class-has-untaken ws i ≡ true = first-untaken-has ws z i c x in
+    let same = first-untaken-unique ws z i c (first-untaken-is ws z i c t) x in
+    record {
+      same-segment = held-segment ws i t ∙ same .same-segment;
+      same-rank = held-rank ws i t ∙ same .same-rank;
+      same-index = held-index ws i t ∙ same .same-index;
+    }
 
 module _ (ws : List ℕ) (i : ℕ) (f : class-has-untaken ws i ≡ false) where
   pub joins-joined : joined ws i ≡ put ws (record-at (first-pool ws)) (fresh-record ws i)

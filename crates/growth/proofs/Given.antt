@@ -1,24 +1,22 @@
 -- The block that is given, in the arena before: where a class has an untaken block, the first in rank order, then index order; every block of
 -- an earlier rank, and every block before it in its own segment, is taken. Where a class has none, all blocks of its segments are taken.
 -- Assumes nothing.
-use Prim.Native.Nat.{ℕ, _+_, _≤_, _<_, zero-le}
+use Prim.Native.Nat.{ℕ, _≤_, _<_, zero-le}
 use mathlib.Core.Path.{_≡_, refl, sym, ap, _∙_, subst}
-use mathlib.Core.Bool.{Bool, true, false, not, cond, _||_}
+use mathlib.Core.Bool.{Bool, true, false, not}
 use mathlib.Core.List.{List}
 use native.Mathlib.Omega.{arith}
 use native.Mathlib.Nat.{le-antisymm}
 use native.Mathlib.Decide.{decLt}
-use lib.Dec.{eqb, ltb}
-use borrow.Author.Tests.{ltb-true, ltb-false, lt-ltb, le-ltb, not-true, not-false}
-use Rattle.model.specs.Class.{is-class, blocks, class-of}
+use borrow.Author.Tests.{ltb-true, ltb-false, not-true, not-false}
+use Rattle.model.specs.Class.{is-class, blocks}
 use Rattle.model.specs.View.{segments, class, rank, members, ranked}
 use Rattle.model.specs.Standing.{in-pool, taken-at}
 use Rattle.model.specs.Calls.{first-untaken, has-untaken, first-rank, class-has-untaken, first-pool, has-pool}
 use Rattle.laws.proofs.Below.{First, first-is}
-use Rattle.words.proofs.ClassLaws.{class-bounds}
-use Rattle.soundness.proofs.Tests.{never, either, not-passed}
-use Rattle.soundness.proofs.Facts.{Member, Block, Sound, taken-block}
-use Rattle.soundness.proofs.Ranks.{rank-below, rank-apart, ranked-class, ranked-rank, ranked-member, ranked-unique, first-found}
+use Rattle.soundness.proofs.Tests.{never, not-passed}
+use Rattle.soundness.proofs.Facts.{Member, Block, Sound}
+use Rattle.soundness.proofs.Ranks.{rank-below, rank-apart, ranked-class, ranked-rank, ranked-member, ranked-unique}
 
 -- ---- the first untaken block of a segment
 

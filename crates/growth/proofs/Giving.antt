@@ -1,34 +1,34 @@
 -- Giving: in a sound arena the first untaken block of a class gets its words and the class's place moves behind it. Every view is as before but
 -- for that block and that place, that block alone is taken more, and the arena stays sound.
 -- Assumes nothing.
-use Prim.Native.Nat.{ℕ, suc, _+_, _≤_, _<_}
-use mathlib.Core.Path.{_≡_, refl, sym, ap, ap₂, _∙_, subst}
+use Prim.Native.Nat.{ℕ, _+_, _≤_, _<_}
+use mathlib.Core.Path.{_≡_, sym, ap, ap₂, _∙_, subst}
 use mathlib.Core.Logic.{_⊎_, inl, inr, _≢_}
-use mathlib.Core.Bool.{Bool, true, false, not, _&&_, _||_}
+use mathlib.Core.Bool.{Bool, true, false, _&&_, _||_}
 use mathlib.Core.List.{List, [], _∷_}
 use native.Mathlib.Omega.{arith}
 use native.Mathlib.Nat.{add-zero}
 use native.Mathlib.Decide.{decLt, ℕ-discrete}
 use lib.ListN.{length}
-use lib.Dec.{eqb, ltb}
+use lib.Dec.{eqb}
 use borrow.Author.Tests.{eqb-true, eq-eqb, ne-eqb}
 use Rattle.model.specs.Below.{count-below}
 use Rattle.model.specs.Word.{word, part, put, field, unnamed}
 use Rattle.model.specs.Class.{is-class, blocks, block-words}
 use Rattle.model.specs.Layout.{place-at, place-word, block-at, handle, segment-of, index-of}
-use Rattle.model.specs.View.{segments, place-rank, place-index, record-of, class-in, rank-in, count-in, bit-in, class, rank, count, bit-of, members, block-of, block-offset, reference-in}
-use Rattle.model.specs.Standing.{in-pool, taken-at, is-taken, none-or-taken}
+use Rattle.model.specs.View.{segments, place-rank, place-index, class-in, rank-in, count-in, bit-in, class, rank, count, members, block-of, block-offset, reference-in}
+use Rattle.model.specs.Standing.{taken-at, is-taken, none-or-taken}
 use Rattle.model.specs.Sound.{levels-right}
 use Rattle.laws.proofs.Below.{count-below-ext}
 use Rattle.laws.proofs.Splice.{part-put}
 use Rattle.words.proofs.ClassLaws.{class-bounds, blocks-most}
 use Rattle.words.proofs.FieldLaws.{place-word-rank, place-word-index, place-word-unnamed}
 use Rattle.words.proofs.HandleLaws.{handle-segment, handle-index, handle-back}
-use Rattle.soundness.proofs.Tests.{never, either, not-passed, same-test, and-left, and-right, and-intro, and-fails-left, and-fails-right, or-cases, or-left, or-right, or-fails, Order, order}
+use Rattle.soundness.proofs.Tests.{not-passed, same-test, and-left, and-right, and-intro, or-cases, or-left, or-right, Order, order}
 use Rattle.soundness.proofs.Tests.Order.{is-below, is-same, is-above}
 use Rattle.soundness.proofs.Facts.{Member, Block, taken-block, Sized, Place, Right, Sound, class-member, block-end}
 use Rattle.soundness.proofs.Ranks.{rank-below, rank-apart}
-use Rattle.soundness.proofs.Taken.{Ground, NoGround, taken-ground, ground-taken, untaken-no-ground}
+use Rattle.soundness.proofs.Taken.{Ground, taken-ground, ground-taken, untaken-no-ground}
 use Rattle.soundness.proofs.Taken.Ground.{earlier, before, marked}
 use Rattle.soundness.proofs.Views.{SameRecords, SameFront, same-segments, same-class, same-rank, same-count, same-bit, same-pool, same-members, same-block-part, taken-same, member-before, member-after, block-put-front, block-put-sized, block-put-length, block-put-other, place-put-length, place-put-sized, place-put-record, place-put-records, place-put-same, place-put-other, place-put-block}
 use Rattle.growth.proofs.Given.{FirstUntaken}

@@ -2,22 +2,22 @@
 -- changes, none of its blocks is taken and all others are taken as before, and the arena stays sound. Where all blocks of the class are taken, its
 -- block 0 is then the first untaken one.
 -- Assumes nothing.
-use Prim.Native.Nat.{ℕ, suc, _+_, _≤_, _<_, zero-le}
-use mathlib.Core.Path.{_≡_, refl, sym, ap, ap₂, _∙_, subst}
+use Prim.Native.Nat.{ℕ, _+_, _≤_, _<_}
+use mathlib.Core.Path.{_≡_, refl, sym, ap, _∙_, subst}
 use mathlib.Core.Logic.{_⊎_, inl, inr, _≢_}
 use mathlib.Core.Bool.{Bool, true, false, not, _&&_, _||_}
-use mathlib.Core.List.{List, [], _∷_}
+use mathlib.Core.List.{List}
 use native.Mathlib.Omega.{arith}
 use native.Mathlib.Decide.{decLt, ℕ-discrete}
 use lib.ListN.{length, replicate}
 use lib.Dec.{eqb, ltb}
 use borrow.Author.Tests.{eqb-true, eq-eqb, ne-eqb, ltb-true}
 use Rattle.model.specs.Below.{one-if, all-below, count-below}
-use Rattle.model.specs.Word.{word, part, put, field, unnamed}
-use Rattle.model.specs.Class.{is-class, blocks, block-words}
-use Rattle.model.specs.Layout.{place-at, record-at, record-head, record-words, level-rows, segment-of, index-of}
+use Rattle.model.specs.Word.{word, put, field, unnamed}
+use Rattle.model.specs.Class.{is-class, blocks}
+use Rattle.model.specs.Layout.{place-at, record-at, record-head, record-words, segment-of, index-of}
 use Rattle.model.specs.View.{segments, place-rank, place-index, record-of, class-in, rank-in, count-in, bit-in, class, rank, count, bit-of, members, block-of, reference-in}
-use Rattle.model.specs.Standing.{in-pool, taken-at, is-taken, none-or-taken}
+use Rattle.model.specs.Standing.{in-pool, taken-at, is-taken}
 use Rattle.model.specs.Sound.{levels-right}
 use Rattle.model.specs.Calls.{class-has-untaken}
 use Rattle.laws.proofs.Below.{count-below-none}

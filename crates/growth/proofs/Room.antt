@@ -1,11 +1,11 @@
 -- Room: how many untaken blocks a class has before and after a granted allocation, and when an allocation is refused for lack of room: no
 -- segment of the class has an untaken block, and no segment is in the pool.
 -- Assumes nothing.
-use Prim.Native.Nat.{ℕ, zero, suc, _+_, _-_, _≤_, _<_}
-use mathlib.Core.Path.{_≡_, refl, sym, ap, ap₂, _∙_, subst}
+use Prim.Native.Nat.{ℕ, zero, suc, _+_, _≤_, _<_}
+use mathlib.Core.Path.{_≡_, refl, sym, ap, ap₂, _∙_}
 use mathlib.Core.Logic.{_⊎_, inl, inr, _≢_, _↔_}
-use mathlib.Core.Bool.{Bool, true, false, not, cond, _&&_, _||_}
-use mathlib.Core.List.{List, [], _∷_}
+use mathlib.Core.Bool.{Bool, true, false, not, cond, _||_}
+use mathlib.Core.List.{List}
 use native.Mathlib.Omega.{arith}
 use native.Mathlib.Decide.{decLt, ℕ-discrete}
 use lib.Dec.{eqb, ltb}
@@ -17,13 +17,13 @@ use Rattle.model.specs.Standing.{in-pool, taken-at}
 use Rattle.model.specs.Sound.{sound}
 use Rattle.model.specs.Numbers.{refuse, granted}
 use Rattle.model.specs.Calls.{class-has-untaken, has-pool, given-segment, given-index, allocated, allocate-refusal, room}
-use Rattle.laws.proofs.Below.{sum-below-ext, sum-below-change, count-below-ext, count-below-none, count-below-all, count-below-pos, count-below-change}
+use Rattle.laws.proofs.Below.{sum-below-change, count-below-ext, count-below-none, count-below-all, count-below-pos, count-below-change}
 use Rattle.words.proofs.ClassLaws.{class-bounds, class-small}
-use Rattle.soundness.proofs.Tests.{never, either, not-passed, or-fails, or-fails-left, or-fails-right}
-use Rattle.soundness.proofs.Facts.{Member, Block, Sound, sound-facts, facts-sound, class-member, pool-or-member}
+use Rattle.soundness.proofs.Tests.{never, either, or-fails, or-fails-left, or-fails-right}
+use Rattle.soundness.proofs.Facts.{Block, Sound, sound-facts, facts-sound, class-member}
 use Rattle.soundness.proofs.Taken.{pool-untaken}
 use Rattle.growth.proofs.Given.{class-all-taken, all-taken-class, no-pool, none-in-pool}
-use Rattle.growth.proofs.After.{Grant, class-right, after-segments, given-below, given-inside, after-class, after-record-other, held-class, had-pool, joined-pool}
+use Rattle.growth.proofs.After.{Grant, class-right, after-segments, given-below, given-inside, after-class, after-record-other, held-class, joined-pool}
 use Rattle.growth.proofs.Taken.{given-untaken, taken-given, taken-other-segment, taken-other-index}
 
 -- ---- a class's untaken blocks, segment by segment
@@ -89,7 +89,7 @@ module _ (ws : List ℕ) (n r tag : ℕ) (g : Grant ws n r tag) where
       omega (
         arith,
         count-below-change (blocks i) (λ x. not (taken-at ws' s x)) (λ x. not (taken-at ws s x)) k (given-inside ws n r tag g)
-        (λ x _ f. ap not (taken-other-index ws n r tag g x f)),
+            (λ x _ f. ap not (taken-other-index ws n r tag g x f)),
         ap (λ (b : Bool). one-if (not b)) (taken-given ws n r tag g),
         ap (λ (b : Bool). one-if (not b)) (given-untaken ws n r tag g),
       )

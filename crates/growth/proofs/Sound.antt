@@ -4,12 +4,11 @@
 use Prim.Native.Nat.{ℕ, suc, _+_, _-_, _≤_, _<_}
 use mathlib.Core.Path.{_≡_, refl, ap, _∙_}
 use mathlib.Core.Bool.{true}
-use mathlib.Core.List.{List, _∷_}
+use mathlib.Core.List.{List}
 use native.Mathlib.Omega.{arith}
-use lib.ListN.{replicate, getD-replicate}
+use lib.ListN.{getD-replicate}
 use Rattle.model.specs.Word.{word}
 use Rattle.model.specs.Class.{block-words, class-of}
-use Rattle.model.specs.Layout.{header-word}
 use Rattle.model.specs.View.{n-in, r-in, reference-in}
 use Rattle.model.specs.Standing.{none-or-taken}
 use Rattle.model.specs.Sound.{sound}

@@ -1,35 +1,34 @@
 -- What is taken after a granted allocation: the given block, which was not, and all that was. So there is one taken block more, its standing is
 -- taken with the n, r and tag asked, and the words, shape and standing of every other block are as before.
 -- Assumes nothing.
-use Prim.Native.Nat.{ℕ, suc, _+_, _-_, _*_, _≤_, _<_}
+use Prim.Native.Nat.{ℕ, _+_, _*_, _≤_, _<_}
 use mathlib.Core.Path.{_≡_, refl, sym, ap, ap₂, _∙_, subst}
 use mathlib.Core.Logic.{_⊎_, inl, inr, _≢_}
-use mathlib.Core.Bool.{Bool, true, false, not, cond, _&&_, _||_}
-use mathlib.Core.List.{List, [], _∷_}
+use mathlib.Core.Bool.{Bool, true, false, not, _&&_, _||_}
+use mathlib.Core.List.{List}
 use native.Mathlib.Omega.{arith}
 use native.Mathlib.Decide.{decLt, ℕ-discrete}
 use lib.Dec.{eqb, ltb}
-use borrow.Author.Tests.{eqb-true, eq-eqb, ne-eqb, le-ltb}
+use borrow.Author.Tests.{eq-eqb, ne-eqb, le-ltb}
 use Rattle.model.specs.Below.{count-below}
-use Rattle.model.specs.Word.{word, put}
-use Rattle.model.specs.Class.{is-class, blocks, class-of}
-use Rattle.model.specs.Layout.{record-at, handle, segment-of, index-of}
-use Rattle.model.specs.View.{segments, class-in, class, block-of, block, n-in, r-in, tag-in}
-use Rattle.model.specs.Standing.{in-pool, is-block, taken-at, is-taken, none-or-taken, taken-count, shape-in, shape-of, standing-of}
-use Rattle.model.specs.Calls.{class-has-untaken, has-pool, given-segment, given-index, joined, allocated}
+use Rattle.model.specs.Class.{blocks, class-of}
+use Rattle.model.specs.Layout.{handle, segment-of, index-of}
+use Rattle.model.specs.View.{segments, class, block-of, block}
+use Rattle.model.specs.Standing.{in-pool, is-block, taken-at, is-taken, taken-count, shape-in, shape-of, standing-of}
+use Rattle.model.specs.Calls.{class-has-untaken, given-segment, given-index, joined, allocated}
 use Rattle.model.specs.declared.Shape.{Shape}
-use Rattle.model.specs.declared.Standing.the-variants.{None, Outside, Free, Taken}
+use Rattle.model.specs.declared.Standing.the-variants.{Outside, Free, Taken}
 use Rattle.laws.proofs.Below.{count-below-ext, count-below-one-more}
 use Rattle.words.proofs.ClassLaws.{blocks-most}
 use Rattle.words.proofs.FieldLaws.{header-word-n, header-word-r, header-word-tag}
-use Rattle.words.proofs.HandleLaws.{handle-segment, handle-index, handle-back, index-small}
-use Rattle.soundness.proofs.Tests.{never, either, not-passed, or-left, or-right, or-else}
-use Rattle.soundness.proofs.Facts.{Member, Block, block-facts, facts-block, taken-block}
+use Rattle.words.proofs.HandleLaws.{handle-segment, handle-index, handle-back}
+use Rattle.soundness.proofs.Tests.{never, either, not-passed, or-right}
+use Rattle.soundness.proofs.Facts.{Block, block-facts, facts-block}
 use Rattle.soundness.proofs.Taken.{handle-facts, facts-handle, is-taken-handle, standing-none, standing-outside, standing-free, standing-taken, pool-untaken}
 use Rattle.soundness.proofs.Views.{same-is-block}
 use Rattle.growth.proofs.Giving.{one-more-taken, one-more-is-taken}
-use Rattle.growth.proofs.Joining.{joined-taken, joined-is-taken}
-use Rattle.growth.proofs.After.{Grant, block-given, held-joined, joins-put, class-right, made-ready, gave-block, after-head, after-segments, given-below, given-inside, after-class, after-member, after-given, after-block, after-block-other, after-record-other, held-records, had-pool, joined-pool, joined-zero}
+use Rattle.growth.proofs.Joining.{joined-taken}
+use Rattle.growth.proofs.After.{Grant, block-given, held-joined, joins-put, class-right, made-ready, gave-block, after-head, after-segments, given-below, given-inside, after-class, after-member, after-block, after-block-other, after-record-other, held-records, had-pool, joined-pool, joined-zero}
 
 -- shapes with the same parts
 shape-path : {n r tag n' r' tag' : ℕ} → n ≡ n' → r ≡ r' → tag ≡ tag' → _≡_ {A = Shape} (record { n = n; r = r; tag = tag }) (record { n = n'; r = r'; tag = tag' })
@@ -232,5 +231,10 @@ module _ (ws : List ℕ) (n r tag : ℕ) (g : Grant ws n r tag) where
 
     pub joined-past : blocks i ≤ j → standing-of ws' (handle s j) ≡ Outside
     joined-past u = standing-outside ws' (handle s j) (omega arith) (not-passed (is-block ws' (segment-of (handle s j)) (index-of (handle s j))) (λ b.
-        omega (arith, block-facts ws' (segment-of (handle s j)) (index-of (handle s j)) b .inside, ap (λ (x : ℕ). blocks (class ws' x)) its-segment,
-        ap blocks (after-class ws n r tag g), its-index)))
+        omega (
+          arith,
+          block-facts ws' (segment-of (handle s j)) (index-of (handle s j)) b .inside,
+          ap (λ (x : ℕ). blocks (class ws' x)) its-segment,
+          ap blocks (after-class ws n r tag g),
+          its-index,
+        )))
