@@ -1,0 +1,12 @@
+pub mod Order
+pub mod Least
+pub mod Listing
+pub mod Listed
+pub mod Count
+pub mod Put
+pub mod Frontier
+pub mod Trace
+pub mod Run
+pub mod Reach
+pub mod Arena
+pub mod Examples
