@@ -1,1 +1,2 @@
+pub mod gather;
 pub mod marks;
