@@ -143,14 +143,15 @@ cleared n rest = record {
 
 -- the word of position x, at place `at`, with the mark of x
 pub mark-stored : (marks : List ℕ) (h x at new v : ℕ) → x ≡ h - 1 → at ≡ x / 32 → at < length marks →
-    new ≡ one-if (not (eqb h 0 || bit (word marks at) (x % 32))) →
+    new ≡ one-if (not (eqb h 0 || bit (word marks at) (x % 32))) → new ≤ 1 →
     ((j : ℕ) → bit v j ≡ (bit (word marks at) j || (eqb j (x % 32) && eqb new 1))) → Mark marks h new (set marks at v)
 unfolding marked
-mark-stored marks h x at new v ex ea inside tells bits =
+mark-stored marks h x at new v ex ea inside tells most bits =
     let there : at ≡ (h - 1) / 32 = ea ∙ ap (λ (y : ℕ). y / 32) ex in
     let place : x % 32 ≡ (h - 1) % 32 = ap (λ (y : ℕ). y % 32) ex in
     record {
       tells = tells ∙ ap₂ (λ (o b : ℕ). one-if (not (eqb h 0 || bit (word marks o) b))) there place;
+      most = most;
       bits = λ y. ap (λ (o : ℕ). marked (set marks o v) y) there
           ∙ mark-row marks (h - 1) v (eqb new 1) (omega arith)
           (λ j. bits j ∙ ap₂ (λ (o b : ℕ). bit (word marks o) j || (eqb j b && eqb new 1)) there place) y;

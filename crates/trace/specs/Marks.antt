@@ -30,4 +30,5 @@ pub record Row (marks : List ℕ) (h : ℕ) : Type 0 where
 -- the block of handle h is marked: `new` is 1 if it was not, and 0 if it was, or if h is 0, and then no mark changes
 pub record Mark (marks : List ℕ) (h new : ℕ) (marks' : List ℕ) : Type 0 where
   pub tells : new ≡ one-if (not (none-or-marked marks h))
+  pub most : new ≤ 1
   pub bits : (x : ℕ) → marked marks' x ≡ (marked marks x || (eqb x (h - 1) && eqb new 1))

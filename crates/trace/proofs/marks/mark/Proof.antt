@@ -52,7 +52,7 @@ returns : tie.Need-returns
 returns c =
     let a = c .before .before .before .before .before .before .args in
     mark-stored (a .marks .now) (a .h) _ _ _ _ (c .before .before .before .before .position .ensures) (c .before .before .before .wide .ensures) (omega arith)
-    (c .before .is-new .ensures .0) (c .with-mark .ensures)
+    (c .before .is-new .ensures .0) (c .before .is-new .ensures .1) (c .with-mark .ensures)
 
 pub mark-spec : {M : Type 1} → statement M
 mark-spec =
