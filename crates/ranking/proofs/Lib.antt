@@ -1,0 +1,3 @@
+pub mod LiveLaws
+pub mod GroupLaws
+pub mod Rows
