@@ -73,12 +73,18 @@ pub record Heads (ws groups lives heads : List ℕ) : Type 0 where
   pub long : length heads ≡ 64
   pub headed : (s : ℕ) → s < segments ws → word heads s ≡ head-by ws groups lives s
 
--- the first segment that isn't full stands behind the full ones
+-- the place of class i, of whose m segments so many are full: the first segment that isn't stands behind those
+unfoldable pub place-for : ℕ → ℕ → ℕ → ℕ
+place-for i before m = cond (eqb m 0) (place-word 0 0) (cond (ltb before m) (place-word before 0) (place-word (m - 1) (blocks i)))
+
+pub record PlaceFor (i before m : ℕ) : Type 0 where
+  pub low : 3 ≤ i
+  pub high : i ≤ 12
+  pub few : m ≤ 128
+
 unfoldable pub place-by : List ℕ → List ℕ → ℕ → ℕ
 place-by ws groups i =
-    let before = ranked-in ws groups i full any-rank in
-    let m = before + ranked-in ws groups i rest any-rank in
-    cond (eqb m 0) (place-word 0 0) (cond (ltb before m) (place-word before 0) (place-word (m - 1) (blocks i)))
+    place-for i (ranked-in ws groups i full any-rank) (ranked-in ws groups i full any-rank + ranked-in ws groups i rest any-rank)
 
 pub record PlaceOf (ws : List ℕ) (i : ℕ) : Type 0 where
   pub few : segments ws ≤ 64

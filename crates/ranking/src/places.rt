@@ -1,7 +1,7 @@
 // The new allocation places.
 ghost use mathlib.Core.Path.{_≡_};
 ghost use Prim.Native.Nat.{_<_, _≤_};
-ghost use Rattle.ranking.specs.Groups.{Whole, place-by, PlaceOf, Places};
+ghost use Rattle.ranking.specs.Groups.{Whole, PlaceFor, place-for, place-by, PlaceOf, Places};
 use arena::wide;
 use crate::groups::ranked_in;
 use crate::groups::FULL;
@@ -10,12 +10,11 @@ use words::class::blocks;
 use words::fields::place;
 
 // "The place is (rank of the first segment that isn't full, 0); if all m are full, (m - 1, number of blocks); if m = 0, (0, 0)."
-fn new_place(arena: &[u32], groups: &[u32; 64], class: u32) -> u32
-    requires { ⌜ PlaceOf (now arena) class ⌝ }
-    ensures { λ r. ⌜ r ≡ place-by (now (arena .entry)) (now (groups .entry)) class ⌝ }
+// The full ones of the class's m segments stand first.
+fn place_for(class: u32, full: u32, m: u32) -> u32
+    requires { ⌜ PlaceFor class full m ⌝ }
+    ensures { λ r. ⌜ r ≡ place-for class full m ⌝ }
 {
-    let full = ranked_in(arena, groups, class, FULL, 256);
-    let m = full + ranked_in(arena, groups, class, REST, 256);
     if m == 0 {
         return place(0, 0);
     }
@@ -23,6 +22,15 @@ fn new_place(arena: &[u32], groups: &[u32; 64], class: u32) -> u32
         return place(full, 0);
     }
     place(m - 1, blocks(class))
+}
+
+fn new_place(arena: &[u32], groups: &[u32; 64], class: u32) -> u32
+    requires { ⌜ PlaceOf (now arena) class ⌝ }
+    ensures { λ r. ⌜ r ≡ place-by (now (arena .entry)) (now (groups .entry)) class ⌝ }
+{
+    let full = ranked_in(arena, groups, class, FULL, 256);
+    let rest = ranked_in(arena, groups, class, REST, 256);
+    place_for(class, full, full + rest)
 }
 
 pub fn new_places(arena: &[u32], groups: &[u32; 64]) -> [u32; 10]

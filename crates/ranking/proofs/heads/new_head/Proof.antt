@@ -1,3 +1,11 @@
+-- `ranking::heads::new_head` meets its contract. Assumes nothing.
+use mathlib.Core.Path.{_≡_, sym, ap, _∙_}
+use mathlib.Core.Bool.{true, false}
+use native.Mathlib.Omega.{arith}
+use lib.Dec.{eqb}
+use borrow.Author.Tests.{eq-eqb, ne-eqb}
+use Rattle.model.specs.Word.{word}
+use Rattle.ranking.specs.Groups.{pool, head-by}
 use borrow.Author.Needs.{needs}
 use Rattle.ranking.proofs.heads.new_head.Statement.{statement}
 use Rattle.ranking.proofs.heads.new_head.Tie as tie
@@ -8,49 +16,55 @@ use Rattle.arena.proofs.wide.Reads as wide-reads
 use Rattle.ranking.proofs.heads.new_rank.Reads as new-rank-reads
 use Rattle.words.proofs.fields.record_head.Reads as record-head-reads
 
--- src/heads.rt:36:15
 wide-requires : tie.Need-wide-requires
 wide-requires c κs = search needs
 
--- src/heads.rt:36:8
 mul-if1 : tie.Need-mul-if1
 mul-if1 c = search needs
 
--- src/heads.rt:36:8
 element-copy-out-if1 : tie.Need-element-copy-out-if1
 element-copy-out-if1 c = search needs
 
--- src/heads.rt:37:9
 returns : tie.Need-returns
-returns c = ?
+unfolding head-by
+returns c =
+    let d = c .before .before in
+    let a = d .before .before .args in
+    let e : eqb (word (a .groups .now) (a .s)) pool ≡ true =
+        eq-eqb (word (a .groups .now) (a .s)) pool (ap (word (a .groups .now)) (sym (d .wide .ensures)) ∙ c .if1 .taken) in
+    rw e
 
--- src/heads.rt:39:17
 class-requires : tie.Need-class-requires
 class-requires c κs = search needs
 
--- src/heads.rt:39:34
 new-rank-requires : tie.Need-new-rank-requires
 new-rank-requires c κs = search needs
 
--- src/heads.rt:39:68
 wide-requires-2 : tie.Need-wide-requires-2
 wide-requires-2 c κs = search needs
 
--- src/heads.rt:39:62
 mul-record-head : tie.Need-mul-record-head
 mul-record-head c = search needs
 
--- src/heads.rt:39:62
 element-copy-out-record-head : tie.Need-element-copy-out-record-head
 element-copy-out-record-head c = search needs
 
--- src/heads.rt:39:5
 record-head-requires : tie.Need-record-head-requires
-record-head-requires c κs = ?
+record-head-requires c κs =
+    let d = c .before .before .before .before .before .before in
+    let a = d .before .before .args in
+    let here : word (a .lives .now) (c .before .wide2 .result) ≡ word (a .lives .now) (a .s) = ap (word (a .lives .now)) (c .before .wide2 .ensures) in
+    (omega (arith, c .before .before .before .class .ensures), omega (arith, c .before .before .new-rank .ensures .1), omega (arith, here, d .before .before .pre .fits))
 
--- src/heads.rt:32:1
 returns-2 : tie.Need-returns-2
-returns-2 c = ?
+unfolding head-by
+returns-2 c =
+    let d = c .before .before .before .before .before .before .before in
+    let a = d .before .before .args in
+    let e : eqb (word (a .groups .now) (a .s)) pool ≡ false =
+        ne-eqb (word (a .groups .now) (a .s)) pool (λ q. c .before .before .before .before .before .if1 .left (ap (word (a .groups .now)) (d .wide .ensures) ∙ q)) in
+    let count = ap (word (a .lives .now)) (c .before .before .wide2 .ensures) in
+    c .record-head .ensures ∙ rw (e, c .before .before .before .before .class .ensures, c .before .before .before .new-rank .ensures .0, count)
 
 pub new-head-spec : {M : Type 1} → statement M
 new-head-spec =

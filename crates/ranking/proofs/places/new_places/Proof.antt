@@ -1,3 +1,12 @@
+-- `ranking::places::new_places` meets its contract. The loop's invariant: the places of the classes passed stand in the row. Assumes nothing.
+use borrow.Author.Needs.{needs}
+use Prim.Native.Nat.{ℕ, _+_, _-_, _≤_, _<_}
+use mathlib.Core.Path.{_≡_, refl}
+use native.Mathlib.Omega.{arith}
+use lib.ListN.{length, length-set}
+use Rattle.model.specs.Word.{word}
+use Rattle.ranking.specs.Groups.{place-by}
+use Rattle.ranking.proofs.Rows.{row-next}
 use Rattle.ranking.proofs.places.new_places.Statement.{statement}
 use Rattle.ranking.proofs.places.new_places.Tie as tie
 use Rattle.ranking.proofs.places.new_places.Reads as reads
@@ -6,50 +15,47 @@ use Rattle.arena.proofs.wide.Reads as wide-reads
 use Rattle.ranking.proofs.places.new_place.Reads as new-place-reads
 
 abbrev Inv-loop : tie.InvT-loop
-Inv-loop arena groups places₀ c₀ places c = ?
+Inv-loop arena groups places₀ c₀ places c = (c ≤ 10) × (length places ≡ 10) × ((t : ℕ) → t < c → word places t ≡ place-by arena groups (t + 3))
 
 abbrev μ-loop : tie.MeasureT-loop
-μ-loop arena groups places₀ c₀ places c = ?
+μ-loop arena groups places₀ c₀ places c = 10 - c
 
--- src/places.rt:34:5
 loop-holds : tie.Need-loop-holds Inv-loop μ-loop
-loop-holds c = ?
+loop-holds c = (search needs, refl, λ t l. absurd (omega arith))
 
--- src/places.rt:35:52
 add-new-place : tie.Need-add-new-place Inv-loop μ-loop
-add-new-place c = ?
+add-new-place c = search needs
 
--- src/places.rt:35:27
 new-place-requires : tie.Need-new-place-requires Inv-loop μ-loop
-new-place-requires c κs = ?
+new-place-requires c κs = search needs
 
--- src/places.rt:35:16
 wide-requires : tie.Need-wide-requires Inv-loop μ-loop
-wide-requires c κs = ?
+wide-requires c κs = search needs
 
--- src/places.rt:35:9
 mul-places : tie.Need-mul-places Inv-loop μ-loop
-mul-places c = ?
+mul-places c = search needs
 
--- src/places.rt:35:9
 array-write-places : tie.Need-array-write-places Inv-loop μ-loop
-array-write-places c = ?
+array-write-places c = search needs
 
--- src/places.rt:36:9
 add-c : tie.Need-add-c Inv-loop μ-loop
-add-c c = ?
+add-c c = search needs
 
--- src/places.rt:34:5
 loop-less : tie.Need-loop-less Inv-loop μ-loop
-loop-less c = ?
+loop-less c = search needs
 
--- src/places.rt:34:5
 loop-again : tie.Need-loop-again Inv-loop μ-loop
-loop-again c = ?
+loop-again c =
+    let a = c .before .before .before .before .before .args in
+    let x = c .before .before .before .loop in
+    (omega arith, simp length-set (x .inv .1),
+    row-next (x .places) (λ t. place-by (a .arena .now) (a .groups .now) (t + 3)) (x .c) (c .wide .result) (c .before .new-place .result) (c .wide .ensures)
+    (omega arith) (c .before .new-place .ensures) (x .inv .2))
 
--- src/places.rt:28:1
 returns : tie.Need-returns Inv-loop μ-loop
-returns c = ?
+returns c =
+    let x = c .before .loop in
+    record { long = x .inv .1; placed = λ t l. x .inv .2 t (omega arith) }
 
 pub new-places-spec : {M : Type 1} → statement M
 new-places-spec =
