@@ -1,3 +1,4 @@
 pub mod LiveLaws
 pub mod GroupLaws
 pub mod Rows
+pub mod WithRecords

@@ -1,2 +1,4 @@
 pub mod Live
 pub mod Groups
+pub mod Records
+pub mod Marks

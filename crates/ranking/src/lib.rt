@@ -3,3 +3,5 @@ pub mod live;
 pub mod groups;
 pub mod heads;
 pub mod places;
+pub mod records;
+pub mod marks;
