@@ -2,3 +2,4 @@ pub mod LiveLaws
 pub mod GroupLaws
 pub mod Rows
 pub mod WithRecords
+pub mod Bare

@@ -11,9 +11,9 @@ use native.Mathlib.Numerals.{add-one}
 use lib.ListN.{length, take, drop, length-append, length-drop, drop-of-length-le, take-append-drop, List·getD-append}
 use lib.Seq.{length-take-le, take-append-le, take-at, drop-at, drop-drop, take-take, take-all, drop-length, take-add, getD-take, drop-append-add}
 use Rattle.model.specs.Below.{lists-below}
-use Rattle.model.specs.Word.{word, part, put}
+use Rattle.model.specs.Word.{word, part, put, field}
 use Rattle.model.specs.Layout.{record-at}
-use Rattle.model.specs.View.{record-of}
+use Rattle.model.specs.View.{segments, record-of}
 use Rattle.laws.proofs.Below.{lists-below-ext, length-lists-below, part-lists-below}
 use Rattle.laws.proofs.Splice.{part-append, put-append, put-append-rest, put-same, length-part}
 use Rattle.ranking.specs.Records.{with-records}
@@ -65,6 +65,9 @@ module _ (ws : List ℕ) (n : ℕ) (f : ℕ → List ℕ) (long : (k : ℕ) → 
   pub with-word : (o : ℕ) → o < 11 → word (with-records ws n f) o ≡ word ws o
   unfolding with-records
   with-word o l = List·getD-append (take 11 ws) (lists-below n f ++ drop (record-at n) ws) 0 o (omega (arith, front-length)) ∙ getD-take 11 ws o 0 l
+
+  pub with-segments : segments (with-records ws n f) ≡ segments ws
+  with-segments = ap (field 0 8) (with-word 0 (omega arith))
 
   with-take : take 11 (with-records ws n f) ≡ take 11 ws
   unfolding with-records

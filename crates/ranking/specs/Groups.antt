@@ -95,3 +95,7 @@ pub record PlaceOf (ws : List ℕ) (i : ℕ) : Type 0 where
 pub record Places (ws groups places : List ℕ) : Type 0 where
   pub long : length places ≡ 10
   pub placed : (c : ℕ) → c < 10 → word places c ≡ place-by ws groups (c + 3)
+
+pub record WritePlaces (ws places : List ℕ) : Type 0 where
+  pub room : 11 ≤ length ws
+  pub ten : length places ≡ 10

@@ -1,9 +1,8 @@
 // The new allocation places.
 ghost use mathlib.Core.Path.{_≡_};
 ghost use Prim.Native.Nat.{_<_, _≤_};
-ghost use lib.ListN.{length};
 ghost use Rattle.model.specs.Word.{put};
-ghost use Rattle.ranking.specs.Groups.{Whole, PlaceFor, place-for, place-by, PlaceOf, Places};
+ghost use Rattle.ranking.specs.Groups.{Whole, PlaceFor, place-for, place-by, PlaceOf, Places, WritePlaces};
 use arena::wide;
 use crate::groups::ranked_in;
 use crate::groups::FULL;
@@ -50,7 +49,7 @@ pub fn new_places(arena: &[u32], groups: &[u32; 64]) -> [u32; 10]
 
 // Writes the ten words behind the arena's first.
 pub fn write_places(arena: &mut [u32], places: &[u32; 10])
-    requires { ⌜ 11 ≤ length (now arena) ⌝ }
+    requires { ⌜ WritePlaces (now arena) (now places) ⌝ }
     ensures { λ _. ⌜ now (arena .exit) ≡ put (now (arena .entry)) 1 (now (places .entry)) ⌝ }
 {
     let mut c = 0;

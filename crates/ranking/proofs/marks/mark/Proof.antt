@@ -9,59 +9,45 @@ use Rattle.bitmap.proofs.climb.set_bit.Reads as set-bit-reads
 use Rattle.words.proofs.handles.index.Reads as index-reads
 use Rattle.words.proofs.handles.segment.Reads as segment-reads
 
--- src/marks.rt:20:9
 segment-requires : tie.Need-segment-requires
 segment-requires c κs = search needs
 
--- src/marks.rt:21:13
 index-requires : tie.Need-index-requires
 index-requires c κs = search needs
 
--- src/marks.rt:22:9
 class-requires : tie.Need-class-requires
 class-requires c κs = search needs
 
--- src/marks.rt:23:24
 wide-requires : tie.Need-wide-requires
 wide-requires c κs = search needs
 
--- src/marks.rt:23:19
 mul-at : tie.Need-mul-at
 mul-at c = search needs
 
--- src/marks.rt:23:14
 add-at : tie.Need-add-at
 add-at c = search needs
 
--- src/marks.rt:24:15
 add-end : tie.Need-add-end
 add-end c = search needs
 
--- src/marks.rt:25:13
 mul-set-bit : tie.Need-mul-set-bit
 mul-set-bit c = search needs
 
--- src/marks.rt:25:13
 sub-set-bit : tie.Need-sub-set-bit
 sub-set-bit c = search needs
 
--- src/marks.rt:25:13
 part-set-bit-start : tie.Need-part-set-bit-start
 part-set-bit-start c = search needs
 
--- src/marks.rt:25:13
 part-set-bit-end : tie.Need-part-set-bit-end
 part-set-bit-end c = search needs
 
--- src/marks.rt:25:5
 set-bit-requires : tie.Need-set-bit-requires
 set-bit-requires c κs = ?
 
--- src/marks.rt:16:1
 same-length : tie.Need-same-length
 same-length c = search needs
 
--- src/marks.rt:16:1
 returns : tie.Need-returns
 returns c = ?
 

@@ -10,39 +10,30 @@ Inv-loop arena₀ list j₀ arena j = ?
 abbrev μ-loop : tie.MeasureT-loop
 μ-loop arena₀ list j₀ arena j = ?
 
--- src/marks.rt:33:5
 loop-holds : tie.Need-loop-holds Inv-loop μ-loop
 loop-holds c = ?
 
--- src/marks.rt:34:21
 mul-mark : tie.Need-mul-mark Inv-loop μ-loop
 mul-mark c = ?
 
--- src/marks.rt:34:21
 shared-slice-read-mark : tie.Need-shared-slice-read-mark Inv-loop μ-loop
 shared-slice-read-mark c = ?
 
--- src/marks.rt:34:9
 mark-requires : tie.Need-mark-requires Inv-loop μ-loop
 mark-requires c κs = ?
 
--- src/marks.rt:35:9
 add-j : tie.Need-add-j Inv-loop μ-loop
 add-j c = ?
 
--- src/marks.rt:33:5
 loop-less : tie.Need-loop-less Inv-loop μ-loop
 loop-less c = ?
 
--- src/marks.rt:33:5
 loop-again : tie.Need-loop-again Inv-loop μ-loop
 loop-again c = ?
 
--- src/marks.rt:28:1
 same-length : tie.Need-same-length Inv-loop μ-loop
 same-length c = ?
 
--- src/marks.rt:28:1
 returns : tie.Need-returns Inv-loop μ-loop
 returns c = ?
 
