@@ -3,3 +3,4 @@ pub mod GroupLaws
 pub mod Rows
 pub mod WithRecords
 pub mod Bare
+pub mod MarkLaws

@@ -21,6 +21,17 @@ use Rattle.soundness.proofs.Tests.{same-test, not-passed}
 use Rattle.ways.proofs.Listed.{listed-in, Distinct}
 use Rattle.ranking.specs.Live.{live-in}
 
+-- ---- the handle of a block among those of a segment
+
+module _ (h s k : ℕ) (some : 0 < h) (small : k < 2048) where
+  pub handle-here : segment-of h ≡ s → eqb h (handle s k) ≡ eqb k (index-of h)
+  handle-here e =
+      same-test (eqb h (handle s k)) (eqb k (index-of h)) (λ t. eq-eqb k (index-of h) (omega (arith, eqb-true h (handle s k) t)))
+      (λ t. eq-eqb h (handle s k) (omega (arith, eqb-true k (index-of h) t)))
+
+  pub handle-elsewhere : segment-of h ≢ s → eqb h (handle s k) ≡ false
+  handle-elsewhere f = ne-eqb h (handle s k) (λ e. f (omega arith))
+
 -- ---- which are listed
 
 or-swap : (a b c : Bool) → (a || (b || c)) ≡ (b || (a || c))
@@ -75,12 +86,9 @@ module _ (L : List ℕ) (once : Distinct L) (j : ℕ) (l : j < length L) (some :
       go : Dec (segment-of h ≡ s) → count-below 2048 (λ k. eqb h (handle s k) || before k) ≡ count-below 2048 before + one-if (eqb (segment-of h) s)
       go (yes e) =
           let its : handle s (index-of h) ≡ h = omega arith in
-          let here : (k : ℕ) → k < 2048 → eqb h (handle s k) ≡ eqb k (index-of h) =
-              λ k u. same-test (eqb h (handle s k)) (eqb k (index-of h)) (λ t. eq-eqb k (index-of h) (omega (arith, eqb-true h (handle s k) t)))
-              (λ t. eq-eqb h (handle s k) (omega (arith, eqb-true k (index-of h) t))) in
           omega (
             arith,
-            count-below-ext 2048 (λ k. eqb h (handle s k) || before k) (λ k. eqb k (index-of h) || before k) (λ k u. ap (λ (t : Bool). t || before k) (here k u)),
+            count-below-ext 2048 (λ k. eqb h (handle s k) || before k) (λ k. eqb k (index-of h) || before k) (λ k u. ap (λ (t : Bool). t || before k) (handle-here h s k some u e)),
             count-below-one-more 2048 before (index-of h) (omega arith) (ap (listed (take j L)) its ∙ not-before L j l once),
             ap one-if (eq-eqb (segment-of h) s e),
           )
@@ -88,7 +96,7 @@ module _ (L : List ℕ) (once : Distinct L) (j : ℕ) (l : j < length L) (some :
           omega (
             arith,
             count-below-ext 2048 (λ k. eqb h (handle s k) || before k) before
-            (λ k u. ap (λ (t : Bool). t || before k) (ne-eqb h (handle s k) (λ e. f (omega arith)))),
+            (λ k u. ap (λ (t : Bool). t || before k) (handle-elsewhere h s k some u f)),
             ap one-if (ne-eqb (segment-of h) s f),
           )
 

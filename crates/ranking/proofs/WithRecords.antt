@@ -112,6 +112,10 @@ module _ (ws : List ℕ) (n : ℕ) (f : ℕ → List ℕ) (long : (k : ℕ) → 
       (put-append-rest (lists-below n f) (drop (record-at n) ws) (68 * n) 0 (f n) (omega (arith, records-length))
       ∙ rw (zero-add, size, drop-drop, add-one) (sym (append-assoc (lists-below n f) (f n) (drop (record-at n + 68) ws)) ∙ rw at))
 
+pub with-ext : (ws : List ℕ) (n : ℕ) (f g : ℕ → List ℕ) → ((k : ℕ) → k < n → f k ≡ g k) → with-records ws n f ≡ with-records ws n g
+unfolding with-records
+with-ext ws n f g same = ap (λ (b : List ℕ). take 11 ws ++ (b ++ drop (record-at n) ws)) (lists-below-ext n f g same)
+
 -- none replaced, and each by itself
 pub with-none : (ws : List ℕ) (f : ℕ → List ℕ) → with-records ws 0 f ≡ ws
 unfolding with-records lists-below
