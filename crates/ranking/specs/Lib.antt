@@ -2,3 +2,4 @@ pub mod Live
 pub mod Groups
 pub mod Records
 pub mod Marks
+pub mod Anew
