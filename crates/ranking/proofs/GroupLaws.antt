@@ -102,8 +102,8 @@ module _ (ws L : List ℕ) (sound : Sound ws) (taken : (k : ℕ) → k < length 
       )
 
   module _ (lives groups : List ℕ) (few : segments ws ≤ 64) (counted : Live L lives) (grouped : Groups ws lives groups) where
-    in-class : (s : ℕ) → s < segments ws → in-pool ws s ≡ false → word lives s ≡ live ws L s
-    in-class s l e = counted .counted s (omega arith) ∙ sym (live-is s (record { below = l; used = e }))
+    pub lives-is : (s : ℕ) → s < segments ws → in-pool ws s ≡ false → word lives s ≡ live ws L s
+    lives-is s l e = counted .counted s (omega arith) ∙ sym (live-is s (record { below = l; used = e }))
 
     stays-gone : (s : ℕ) → s < segments ws → stays ws L s ≡ not (gone (class ws s) (word lives s))
     unfolding stays gone
@@ -111,7 +111,7 @@ module _ (ws L : List ℕ) (sound : Sound ws) (taken : (k : ℕ) → k < length 
       where
         go : (t : Bool) → in-pool ws s ≡ t → (not t && not (eqb (live ws L s) 0)) ≡ not (t || eqb (word lives s) 0)
         go true e = refl
-        go false e = ap (λ (n : ℕ). not (eqb n 0)) (sym (in-class s l e))
+        go false e = ap (λ (n : ℕ). not (eqb n 0)) (sym (lives-is s l e))
 
     full-gone : (s : ℕ) → s < segments ws → stays-full ws L s ≡ (not (gone (class ws s) (word lives s)) && eqb (word lives s) (blocks (class ws s)))
     unfolding stays-full stays gone
@@ -120,7 +120,7 @@ module _ (ws L : List ℕ) (sound : Sound ws) (taken : (k : ℕ) → k < length 
         go : (t : Bool) → in-pool ws s ≡ t
             → ((not t && not (eqb (live ws L s) 0)) && eqb (live ws L s) (blocks (class ws s))) ≡ (not (t || eqb (word lives s) 0) && eqb (word lives s) (blocks (class ws s)))
         go true e = refl
-        go false e = ap (λ (n : ℕ). not (eqb n 0) && eqb n (blocks (class ws s))) (sym (in-class s l e))
+        go false e = ap (λ (n : ℕ). not (eqb n 0) && eqb n (blocks (class ws s))) (sym (lives-is s l e))
 
     -- the groups are those of a collection
     pub stays-is : (s : ℕ) → s < segments ws → eqb (word groups s) pool ≡ not (stays ws L s)

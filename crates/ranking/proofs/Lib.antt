@@ -4,3 +4,4 @@ pub mod Rows
 pub mod WithRecords
 pub mod Bare
 pub mod MarkLaws
+pub mod Collected

@@ -27,11 +27,11 @@ use Rattle.ranking.proofs.WithRecords.{with-length, with-segments, with
 abbrev with-bits : List ℕ → List ℕ → ℕ → ℕ → Bool
 with-bits ws M s k = listed M (handle s k) || bit-of ws s k
 
-marked-pool : (ws M : List ℕ) (s : ℕ) → in-pool ws s ≡ true → marked ws M s ≡ record-of ws s
+pub marked-pool : (ws M : List ℕ) (s : ℕ) → in-pool ws s ≡ true → marked ws M s ≡ record-of ws s
 unfolding marked
 marked-pool ws M s e = rw e
 
-marked-used : (ws M : List ℕ) (s : ℕ) → in-pool ws s ≡ false → marked ws M s ≡ word (record-of ws s) 0 ∷ level-rows (class ws s) (with-bits ws M s)
+pub marked-used : (ws M : List ℕ) (s : ℕ) → in-pool ws s ≡ false → marked ws M s ≡ word (record-of ws s) 0 ∷ level-rows (class ws s) (with-bits ws M s)
 unfolding marked
 marked-used ws M s e = rw e
 
