@@ -30,7 +30,7 @@ use Rattle.soundness.proofs.Facts.{Member, Sound, sound-facts}
 use Rattle.soundness.proofs.Taken.{TakenHandle, handle-facts}
 use Rattle.ways.proofs.Listed.{in-listed}
 use Rattle.ranking.specs.Anew.{TakenList}
-use Rattle.ranking.specs.Live.{Live}
+use Rattle.ranking.specs.Live.{Handles, Live}
 use Rattle.ranking.specs.Groups.{pool, Groups, rank-by, head-by, Heads, place-by, Places}
 use Rattle.ranking.specs.Records.{with-records, bare-record, Head}
 use Rattle.ranking.specs.Marks.{marked, Marks}
@@ -131,6 +131,13 @@ module _ (ws L : List ℕ) (p : TakenList ws L) where
         let is : listed L (handle s k) ≡ true = ap (listed L) back ∙ in-listed L h (j, l, refl) in
         live-stays ws L s (its .its-block .member .used)
         (λ z. omega (arith, count-below-pos (blocks (class ws s)) (λ k. listed L (handle s k)) k (its .its-block .inside) is))
+
+  pub taken-handles : Handles L
+  taken-handles = record {
+    some = λ j l. its j l .positive;
+    within = λ j l. omega (arith, its j l .its-block .member .below, facts .size .few);
+    once = p .once;
+  }
 
   module _ (lives groups heads : List ℕ) (counted : Live L lives) (grouped : Groups ws lives groups) (headed : Heads ws groups lives heads) where
     module _ (s : ℕ) (l : s < segments ws) where
