@@ -1,25 +1,60 @@
 -- What the search finds is the block that document 01 says is given: by the ways out of the search.
 -- Assumes nothing.
 use Prim.Native.Nat.{ℕ, _+_, _≤_, _<_}
-use mathlib.Core.Path.{_≡_, sym, ap, _∙_, subst}
+use mathlib.Core.Path.{_≡_, sym, ap, ap₂, _∙_, subst}
 use mathlib.Core.Logic.{_≢_}
 use mathlib.Core.Bool.{Bool, true, false, cond}
 use mathlib.Core.List.{List}
 use native.Mathlib.Omega.{arith}
+use lib.ListN.{length}
 use borrow.Author.Tests.{lt-ltb, le-ltb}
 use Rattle.model.specs.Class.{blocks}
-use Rattle.model.specs.View.{segments, place-rank, place-index, class, members, ranked}
+use Rattle.model.specs.View.{segments, place-rank, place-index, record-of, class, members, ranked}
 use Rattle.model.specs.Standing.{in-pool}
+use Rattle.model.specs.Sound.{levels-right, sound}
 use Rattle.model.specs.Calls.{first-untaken, has-untaken, first-rank, class-has-untaken, first-pool, has-pool, given-segment, given-rank, given-index}
 use Rattle.laws.proofs.Below.{first-is}
 use Rattle.soundness.proofs.Tests.{Order, order}
 use Rattle.soundness.proofs.Tests.Order.{is-below, is-same, is-above}
-use Rattle.soundness.proofs.Facts.{Sound, sound-facts}
-use Rattle.soundness.proofs.Ranks.{ranked-class}
-use Rattle.allocation.specs.Spots.{Search, Free, Joining, Given, Finds}
+use Rattle.soundness.proofs.Facts.{Sound, sound-facts, record-length}
+use Rattle.soundness.proofs.Ranks.{ranked-class, ranked-member}
+use Rattle.arena.specs.Inside.{Segment}
+use Rattle.bitmap.specs.Tree.{FirstFree}
+use Rattle.allocation.specs.Spots.{Whole, Search, FreeAt, Free, AtPlace, Joining, Given, Finds}
 use Rattle.allocation.specs.declared.find.Spot.{Spot}
 use Rattle.allocation.specs.declared.find.Found.the-variants.{Here, Joins, NoRoom}
 use Rattle.allocation.proofs.FirstLaws.{none-earlier, first-at-place, first-behind, some-behind, has-at, segment-at, rank-at, index-at, has-none}
+
+-- ---- what the search asks of the functions that it calls
+
+pub whole : (ws : List ℕ) → sound ws ≡ true → Whole ws
+whole ws t =
+    let size = sound-facts ws t .size in
+    record { few = size .few; long = size .long }
+
+-- the segment of a rank is one of the arena's, and its record is one in which a free block can be searched
+pub segment-ranked : (ws : List ℕ) (i q k s : ℕ) → FreeAt ws i q k → s ≡ ranked ws i q → Segment ws s
+segment-ranked ws i q k s h e =
+    let facts = sound-facts ws (h .is-sound) in
+    record { few = facts .size .few; long = facts .size .long; there = omega (arith, ranked-member ws facts i q (h .class) (h .ranked) .below) }
+
+pub free-asked : (ws : List ℕ) (i q k s : ℕ) (rec : List ℕ) → FreeAt ws i q k → s ≡ ranked ws i q → rec ≡ record-of ws s → FirstFree rec i k
+free-asked ws i q k s rec h e same =
+    let facts = sound-facts ws (h .is-sound) in
+    let m = ranked-member ws facts i q (h .class) (h .ranked) in
+    let is : rec ≡ record-of ws (ranked ws i q) = same ∙ ap (record-of ws) e in
+    record {
+      long = ap length is ∙ record-length ws (facts .size) (ranked ws i q) (m .below);
+      class = h .class;
+      right =
+          ap₂ levels-right (sym (ranked-class ws facts i q (h .class) (h .ranked))) is
+          ∙ facts .levelled (ranked ws i q) m;
+      inside = h .inside;
+    }
+
+pub free-same : {ws : List ℕ} {i q q′ k k′ : ℕ} {spot : Spot} → q ≡ q′ → k ≡ k′ → Free ws i q k spot → Free ws i q′ k′ spot
+free-same {ws} {i} {q} {q′} {k} {k′} {spot} eq ek free =
+    subst (λ (q : ℕ). Free ws i q k′ spot) eq (subst (λ (k : ℕ). Free ws i q k spot) ek free)
 
 -- ---- a class without segments
 
@@ -28,13 +63,13 @@ none-unused ws i h e = has-none ws (sound-facts ws (h .is-sound)) i (h .class) (
 
 -- ---- a class with segments, in which the search begins at the place
 
-module _ (ws : List ℕ) (i : ℕ) (h : Search ws i) (some : 0 < members ws i) where
+module _ (ws : List ℕ) (i : ℕ) (h : AtPlace ws i) where
   facts : Sound ws
   facts = sound-facts ws (h .is-sound)
 
-  -- the place's rank is one of the class
+  -- the place is in the segment of a rank of the class
   pub place-ranked : place-rank ws i < members ws i
-  place-ranked = facts .placed i (h .class) .used some
+  place-ranked = facts .placed i (h .class) .used (h .some)
 
   pub place-inside : place-index ws i ≤ blocks i
   place-inside = facts .placed i (h .class) .index
@@ -42,28 +77,24 @@ module _ (ws : List ℕ) (i : ℕ) (h : Search ws i) (some : 0 < members ws i) w
   before-place : (j : ℕ) → j < place-rank ws i → has-untaken ws (ranked ws i j) ≡ false
   before-place j l = none-earlier ws facts i (h .class) j (omega (arith, place-ranked)) l
 
-  -- where the search at or after the place has ended: the first untaken block of the place's segment, if there is one
-  module _ (q k : ℕ) (spot : Spot) (eq : q ≡ place-rank ws i) (ek : k ≡ place-index ws i) (free : Free ws i q k spot) where
-    at-place : Free ws i (place-rank ws i) (place-index ws i) spot
-    at-place =
-        subst (λ (q : ℕ). Free ws i q (place-index ws i) spot) eq (subst (λ (k : ℕ). Free ws i q k spot) ek free)
+  -- what the search at or after the place finds is the first untaken block of the place's segment, if it has one
+  module _ (here : Spot) (free : Free ws i (place-rank ws i) (place-index ws i) here) where
+    first : here .index .0 ≡ first-untaken ws (ranked ws i (place-rank ws i))
+    first = free .index ∙ sym (first-at-place ws facts i (h .class) place-ranked)
 
-    first : spot .index .0 ≡ first-untaken ws (ranked ws i (place-rank ws i))
-    first = at-place .index ∙ sym (first-at-place ws facts i (h .class) place-ranked)
-
-    pub found-here : spot .index .0 < blocks i → Finds ws i (Here spot)
+    pub found-here : here .index .0 < blocks i → Finds ws i (Here here)
     found-here inside =
         let low : first-untaken ws (ranked ws i (place-rank ws i)) < blocks i = omega (arith, first) in (
           has-at ws facts i (h .class) (place-rank ws i) place-ranked before-place low,
           record {
-            segment = at-place .segment ∙ sym (segment-at ws facts i (h .class) (place-rank ws i) place-ranked before-place low);
-            rank = at-place .rank ∙ sym (rank-at ws facts i (h .class) (place-rank ws i) place-ranked before-place low);
+            segment = free .segment ∙ sym (segment-at ws facts i (h .class) (place-rank ws i) place-ranked before-place low);
+            rank = free .rank ∙ sym (rank-at ws facts i (h .class) (place-rank ws i) place-ranked before-place low);
             index = first ∙ sym (index-at ws facts i (h .class) (place-rank ws i) place-ranked before-place low);
           },
         )
 
-    -- if there is none, all segments up to the place's are taken
-    module _ (none : blocks i ≤ spot .index .0) where
+    -- if it has none, every block up to its rank q is taken
+    module _ (q : ℕ) (e : q ≡ place-rank ws i) (none : blocks i ≤ here .index .0) where
       taken-here : has-untaken ws (ranked ws i (place-rank ws i)) ≡ false
       unfolding has-untaken
       taken-here =
@@ -80,15 +111,15 @@ module _ (ws : List ℕ) (i : ℕ) (h : Search ws i) (some : 0 < members ws i) w
 
       -- then the segment behind it has one
       pub found-next : (next : Spot) → q + 1 < members ws i → Free ws i (q + 1) 0 next → Finds ws i (Here next)
-      found-next next l behind =
-          let u : place-rank ws i < q + 1 = omega arith in
-          let low : first-untaken ws (ranked ws i (q + 1)) < blocks i = some-behind ws facts i (h .class) (q + 1) l u in (
+      found-next next l free =
+          let behind : place-rank ws i < q + 1 = omega arith in
+          let low : first-untaken ws (ranked ws i (q + 1)) < blocks i = some-behind ws facts i (h .class) (q + 1) l behind in (
             has-at ws facts i (h .class) (q + 1) l taken-up-to low,
             record {
-              segment = behind .segment ∙ sym (segment-at ws facts i (h .class) (q + 1) l taken-up-to low);
-              rank = behind .rank ∙ sym (rank-at ws facts i (h .class) (q + 1) l taken-up-to low);
+              segment = free .segment ∙ sym (segment-at ws facts i (h .class) (q + 1) l taken-up-to low);
+              rank = free .rank ∙ sym (rank-at ws facts i (h .class) (q + 1) l taken-up-to low);
               index =
-                  behind .index ∙ sym (first-behind ws facts i (h .class) (q + 1) l u)
+                  free .index ∙ sym (first-behind ws facts i (h .class) (q + 1) l behind)
                   ∙ sym (index-at ws facts i (h .class) (q + 1) l taken-up-to low);
             },
           )

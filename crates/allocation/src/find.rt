@@ -1,6 +1,6 @@
 // The block to give.
-ghost use mathlib.Core.Path.{_≡_};
-ghost use Rattle.allocation.specs.Spots.{Whole, Search, FreeAt, Free, Joining, Finds};
+ghost use Rattle.model.specs.View.{place-rank, place-index};
+ghost use Rattle.allocation.specs.Spots.{Search, FreeAt, Free, AtPlace, Joining, Finds};
 use arena::place_of;
 use arena::record_of;
 use arena::segments;
@@ -41,6 +41,15 @@ fn free_at(arena: &[u32], class: u32, rank: u32, from: BlockIndex) -> Spot
     }
 }
 
+// The same at the class's place, where every block before the index is taken.
+fn at_place(arena: &[u32], class: u32) -> Spot
+    requires { ⌜ AtPlace (now arena) class ⌝ }
+    ensures { λ r. ⌜ Free (now (arena .entry)) class (place-rank (now (arena .entry)) class) (place-index (now (arena .entry)) class) r ⌝ }
+{
+    let place = place_of(arena, class);
+    free_at(arena, class, place_rank(place), BlockIndex(place_index(place)))
+}
+
 // Where a class has no untaken block: block 0 of the lowest-numbered pool segment, at the next rank.
 fn joining(arena: &[u32], class: u32, rank: u32) -> Found
     requires { ⌜ Joining (now arena) class rank ⌝ }
@@ -57,7 +66,7 @@ fn joining(arena: &[u32], class: u32, rank: u32) -> Found
     })
 }
 
-// The block that an allocation of the class is to be given.
+// The block that an allocation of the class is given.
 pub fn find(arena: &[u32], class: u32) -> Found
     requires { ⌜ Search (now arena) class ⌝ }
     ensures { λ r. ⌜ Finds (now (arena .entry)) class r ⌝ }
@@ -66,15 +75,13 @@ pub fn find(arena: &[u32], class: u32) -> Found
     if m == 0 {
         return joining(arena, class, m);
     }
-    let place = place_of(arena, class);
-    let rank = place_rank(place);
-    let here = free_at(arena, class, rank, BlockIndex(place_index(place)));
+    let here = at_place(arena, class);
     if here.index.0 < blocks(class) {
         return Found::Here(here);
     }
-    // a segment behind the place is not full, so this search does not fail
-    if rank + 1 < m {
-        return Found::Here(free_at(arena, class, rank + 1, BlockIndex(0)));
+    // A segment behind the place is not full, so this search finds a block.
+    if here.rank + 1 < m {
+        return Found::Here(free_at(arena, class, here.rank + 1, BlockIndex(0)));
     }
     joining(arena, class, m)
 }

@@ -1,73 +1,78 @@
+use mathlib.Core.Path.{_≡_, sym, ap, _∙_}
+use native.Mathlib.Omega.{arith}
+use Rattle.words.proofs.ClassLaws.{class-bounds}
+use Rattle.allocation.specs.Spots.{AtPlace}
+use Rattle.allocation.proofs.FindLaws.{whole, none-unused, found-here, found-next, none-left}
 use borrow.Author.Needs.{needs}
 use Rattle.allocation.proofs.find.find.Statement.{statement}
 use Rattle.allocation.proofs.find.find.Tie as tie
 use Rattle.allocation.proofs.find.find.Reads as reads
 use Rattle.allocation.proofs.find.find.Lts as lts
+use Rattle.allocation.proofs.find.at_place.Reads as at-place-reads
 use Rattle.allocation.proofs.find.free_at.Reads as free-at-reads
 use Rattle.allocation.proofs.find.joining.Reads as joining-reads
 use Rattle.allocation.proofs.segments.members.Reads as members-reads
-use Rattle.arena.proofs.place_of.Reads as place-of-reads
 use Rattle.words.proofs.class.blocks.Reads as blocks-reads
-use Rattle.words.proofs.fields.place_index.Reads as place-index-reads
-use Rattle.words.proofs.fields.place_rank.Reads as place-rank-reads
 
--- src/find.rt:65:9
 members-requires : tie.Need-members-requires
-members-requires c κs = ?
+members-requires c κs = whole (c .before .args .arena .now) (c .before .pre .is-sound)
 
--- src/find.rt:67:9
 joining-requires : tie.Need-joining-requires
-joining-requires c κs = ?
+joining-requires c κs = 
+    let a = c .before .before .before .args in
+    let h = c .before .before .before .pre in
+    let m = c .before .members .ensures in
+    let size = whole (a .arena .now) (h .is-sound) in
+    record { few = size .few; long = size .long; none = none-unused (a .arena .now) (a .class) h (sym m ∙ c .if1 .taken); next = m }
 
--- src/find.rt:67:9
 returns : tie.Need-returns
 returns c = search needs
 
--- src/find.rt:69:9
-place-of-requires : tie.Need-place-of-requires
-place-of-requires c κs = ?
+at-place-requires : tie.Need-at-place-requires
+at-place-requires c κs = search needs
 
--- src/find.rt:70:9
-place-rank-requires : tie.Need-place-rank-requires
-place-rank-requires c κs = search needs
-
--- src/find.rt:71:55
-place-index-requires : tie.Need-place-index-requires
-place-index-requires c κs = search needs
-
--- src/find.rt:71:9
-free-at-requires : tie.Need-free-at-requires
-free-at-requires c κs = ?
-
--- src/find.rt:72:23
 blocks-requires : tie.Need-blocks-requires
-blocks-requires c κs = ?
+blocks-requires c κs = omega (arith, class-bounds (c .before .before .before .before .args .class) (c .before .before .before .before .pre .class))
 
--- src/find.rt:73:9
 returns-2 : tie.Need-returns-2
-returns-2 c = ?
+returns-2 c =
+    let a = c .before .before .before .before .before .before .before .args in
+    let h = c .before .before .before .before .before .before .before .pre in
+    let here = c .before .before .before .at-place in
+    let at : AtPlace (a .arena .now) (a .class) = record { is-sound = h .is-sound; class = h .class; some = omega arith } in
+    found-here (a .arena .now) (a .class) at (here .result) (here .ensures) (omega (arith, c .if2 .taken, c .before .before .blocks2 .ensures))
 
--- src/find.rt:76:8
 add-if3 : tie.Need-add-if3
 add-if3 c = search needs
 
--- src/find.rt:77:50
 add-free-at : tie.Need-add-free-at
 add-free-at c = search needs
 
--- src/find.rt:77:28
-free-at-requires-2 : tie.Need-free-at-requires-2
-free-at-requires-2 c κs = search needs
+free-at-requires : tie.Need-free-at-requires
+free-at-requires c κs = search needs
 
--- src/find.rt:77:9
 returns-3 : tie.Need-returns-3
-returns-3 c = ?
+returns-3 c =
+    let a = c .before .before .before .before .before .before .before .before .before .before .before .args in
+    let h = c .before .before .before .before .before .before .before .before .before .before .before .pre in
+    let here = c .before .before .before .before .before .before .before .at-place in
+    let m = c .before .before .before .before .before .before .before .before .before .members .ensures in
+    let at : AtPlace (a .arena .now) (a .class) = record { is-sound = h .is-sound; class = h .class; some = omega (arith, c .before .before .before .before .before .before .before .before .if1 .left, m) } in
+    found-next (a .arena .now) (a .class) at (here .result) (here .ensures) (here .result .rank) (here .ensures .rank)
+    (omega (arith, c .before .before .before .before .if2 .left, c .before .before .before .before .before .before .blocks2 .ensures)) (c .free-at .result) (omega (arith, c .before .before .if3 .taken, m)) (c .free-at .ensures)
 
--- src/find.rt:79:5
 joining-requires-2 : tie.Need-joining-requires-2
-joining-requires-2 c κs = ?
+joining-requires-2 c κs =
+    let a = c .before .before .before .before .before .before .before .before .before .args in
+    let h = c .before .before .before .before .before .before .before .before .before .pre in
+    let here = c .before .before .before .before .before .at-place in
+    let m = c .before .before .before .before .before .before .before .members .ensures in
+    let size = whole (a .arena .now) (h .is-sound) in
+    let at : AtPlace (a .arena .now) (a .class) = record { is-sound = h .is-sound; class = h .class; some = omega (arith, c .before .before .before .before .before .before .if1 .left, m) } in
+    let none = none-left (a .arena .now) (a .class) at (here .result) (here .ensures) (here .result .rank) (here .ensures .rank)
+        (omega (arith, c .before .before .if2 .left, c .before .before .before .before .blocks2 .ensures)) (omega (arith, c .if3 .left, m)) in
+    record { few = size .few; long = size .long; none = none; next = m }
 
--- src/find.rt:61:1
 returns-4 : tie.Need-returns-4
 returns-4 c = search needs
 
@@ -78,15 +83,12 @@ find-spec =
     members-requires
     joining-requires
     returns
-    place-of-requires
-    place-rank-requires
-    place-index-requires
-    free-at-requires
+    at-place-requires
     blocks-requires
     returns-2
     add-if3
     add-free-at
-    free-at-requires-2
+    free-at-requires
     returns-3
     joining-requires-2
     returns-4)

@@ -1,26 +1,40 @@
+-- `allocation::find::free_at` meets its contract: the record that is searched is that of the rank's segment. Assumes nothing.
+use Prim.Native.Nat.{ℕ, _-_}
+use mathlib.Core.Path.{refl, ap, _∙_}
+use mathlib.Core.Bool.{not}
+use mathlib.Core.List.{List}
+use Rattle.model.specs.Below.{first-from}
+use Rattle.model.specs.Class.{blocks}
+use Rattle.model.specs.View.{bit-in, record-of}
+use Rattle.allocation.proofs.FindLaws.{whole, segment-ranked, free-asked}
 use Rattle.allocation.proofs.find.free_at.Statement.{statement}
 use Rattle.allocation.proofs.find.free_at.Tie as tie
-use Rattle.allocation.proofs.find.free_at.Reads as reads
-use Rattle.allocation.proofs.find.free_at.Lts as lts
-use Rattle.allocation.proofs.segments.ranked.Reads as ranked-reads
-use Rattle.arena.proofs.record_of.Reads as record-of-reads
-use Rattle.bitmap.proofs.search.first_free.Reads as first-free-reads
 
--- src/find.rt:35:9
 ranked-requires : tie.Need-ranked-requires
-ranked-requires c κs = ?
+ranked-requires c κs = whole (c .before .args .arena .now) (c .before .pre .is-sound)
 
--- src/find.rt:36:24
 record-of-requires : tie.Need-record-of-requires
-record-of-requires c κs = ?
+record-of-requires c κs =
+    let a = c .before .before .args in
+    segment-ranked (a .arena .now) (a .class) (a .rank) (a .from .0) (c .ranked .result) (c .before .before .pre) (c .ranked .ensures)
 
--- src/find.rt:36:9
 first-free-requires : tie.Need-first-free-requires
-first-free-requires c κs = ?
+first-free-requires c κs =
+    let a = c .before .before .before .args in
+    free-asked (a .arena .now) (a .class) (a .rank) (a .from .0) (c .before .ranked .result) (c .record-of .result .now) (c .before .before .before .pre)
+    (c .before .ranked .ensures) (c .record-of .ensures)
 
--- src/find.rt:31:1
 returns : tie.Need-returns
-returns c = ?
+returns c =
+    let a = c .before .before .before .before .args in
+    record {
+      segment = c .before .before .ranked .ensures;
+      rank = refl;
+      index =
+          c .first-free .ensures
+          ∙ ap (λ (rec : List ℕ). first-from (a .from .0) (blocks (a .class) - a .from .0) (λ j. not (bit-in rec j)))
+          (c .before .record-of .ensures ∙ ap (record-of (a .arena .now)) (c .before .before .ranked .ensures));
+    }
 
 pub free-at-spec : {M : Type 1} → statement M
 free-at-spec = tie.close (tie.spec ranked-requires record-of-requires first-free-requires returns)
