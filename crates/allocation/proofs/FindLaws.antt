@@ -1,15 +1,16 @@
 -- What the search finds is the block that document 01 says is given: by the ways out of the search.
 -- Assumes nothing.
-use Prim.Native.Nat.{ℕ, _+_, _≤_, _<_}
+use Prim.Native.Nat.{ℕ, _+_, _-_, _≤_, _<_}
 use mathlib.Core.Path.{_≡_, sym, ap, ap₂, _∙_, subst}
 use mathlib.Core.Logic.{_≢_}
-use mathlib.Core.Bool.{Bool, true, false, cond}
+use mathlib.Core.Bool.{Bool, true, false, not, cond}
 use mathlib.Core.List.{List}
 use native.Mathlib.Omega.{arith}
 use lib.ListN.{length}
 use borrow.Author.Tests.{lt-ltb, le-ltb}
+use Rattle.model.specs.Below.{first-from}
 use Rattle.model.specs.Class.{blocks}
-use Rattle.model.specs.View.{segments, place-rank, place-index, record-of, class, members, ranked}
+use Rattle.model.specs.View.{segments, place-rank, place-index, record-of, bit-in, class, bit-of, members, ranked}
 use Rattle.model.specs.Standing.{in-pool}
 use Rattle.model.specs.Sound.{levels-right, sound}
 use Rattle.model.specs.Calls.{first-untaken, has-untaken, first-rank, class-has-untaken, first-pool, has-pool, given-segment, given-rank, given-index}
@@ -51,6 +52,11 @@ free-asked ws i q k s rec h e same =
           ∙ facts .levelled (ranked ws i q) m;
       inside = h .inside;
     }
+
+-- and what is found in it is found in the segment
+pub free-is : (ws : List ℕ) (i q k s : ℕ) (rec : List ℕ) (r : ℕ) → s ≡ ranked ws i q → rec ≡ record-of ws s
+    → r ≡ first-from k (blocks i - k) (λ j. not (bit-in rec j)) → r ≡ first-from k (blocks i - k) (λ j. not (bit-of ws (ranked ws i q) j))
+free-is ws i q k s rec r e same is = rw (← e, ← same) is
 
 pub free-same : {ws : List ℕ} {i q q′ k k′ : ℕ} {spot : Spot} → q ≡ q′ → k ≡ k′ → Free ws i q k spot → Free ws i q′ k′ spot
 free-same {ws} {i} {q} {q′} {k} {k′} {spot} eq ek free =

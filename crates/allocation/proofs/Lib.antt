@@ -1,3 +1,4 @@
 pub mod LoopLaws
 pub mod FirstLaws
 pub mod FindLaws
+pub mod GiveLaws

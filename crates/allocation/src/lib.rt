@@ -8,5 +8,5 @@
 
 pub mod segments;
 pub mod find;
-// pub mod give;
+pub mod give;
 // pub mod allocate;

@@ -1,12 +1,6 @@
 -- `allocation::find::free_at` meets its contract: the record that is searched is that of the rank's segment. Assumes nothing.
-use Prim.Native.Nat.{ℕ, _-_}
-use mathlib.Core.Path.{refl, ap, _∙_}
-use mathlib.Core.Bool.{not}
-use mathlib.Core.List.{List}
-use Rattle.model.specs.Below.{first-from}
-use Rattle.model.specs.Class.{blocks}
-use Rattle.model.specs.View.{bit-in, record-of}
-use Rattle.allocation.proofs.FindLaws.{whole, segment-ranked, free-asked}
+use mathlib.Core.Path.{refl}
+use Rattle.allocation.proofs.FindLaws.{whole, segment-ranked, free-asked, free-is}
 use Rattle.allocation.proofs.find.free_at.Statement.{statement}
 use Rattle.allocation.proofs.find.free_at.Tie as tie
 
@@ -31,9 +25,8 @@ returns c =
       segment = c .before .before .ranked .ensures;
       rank = refl;
       index =
-          c .first-free .ensures
-          ∙ ap (λ (rec : List ℕ). first-from (a .from .0) (blocks (a .class) - a .from .0) (λ j. not (bit-in rec j)))
-          (c .before .record-of .ensures ∙ ap (record-of (a .arena .now)) (c .before .before .ranked .ensures));
+          free-is (a .arena .now) (a .class) (a .rank) (a .from .0) (c .before .before .ranked .result) (c .before .record-of .result .now) (c .first-free .result)
+          (c .before .before .ranked .ensures) (c .before .record-of .ensures) (c .first-free .ensures);
     }
 
 pub free-at-spec : {M : Type 1} → statement M
