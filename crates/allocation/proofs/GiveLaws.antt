@@ -28,7 +28,7 @@ use Rattle.soundness.proofs.Facts.{Sound, sound-facts}
 use Rattle.soundness.proofs.Ranks.{ranked-class, ranked-member, members-le}
 use Rattle.allocation.specs.declared.find.Spot.{Spot}
 use Rattle.allocation.specs.Spots.{Given}
-use Rattle.allocation.specs.Gifts.{Cleared, Join, Take, Here, Joining, given-block, taken-words}
+use Rattle.allocation.specs.Gifts.{Cleared, Join, Take, GiveHere, GiveJoining, given-block, taken-words}
 
 -- ---- one block, one part
 
@@ -142,7 +142,7 @@ shape-class n i small e = ap is-class e ∙ class-small n small
 
 module _ (ws : List ℕ) (i : ℕ) (spot : Spot) (shape : Shape) (N : ℕ) (count : N ≡ segments ws) where
   -- a block of the class's own segments
-  module _ (h : Here ws i spot shape) where
+  module _ (h : GiveHere ws i spot shape) where
     facts : Sound ws
     facts = sound-facts ws (h .is-sound)
 
@@ -170,7 +170,7 @@ module _ (ws : List ℕ) (i : ℕ) (spot : Spot) (shape : Shape) (N : ℕ) (coun
         (ap (λ (t : Bool). cond t ws (put ws (record-at (first-pool ws)) (record-words i (members ws i) 0 (λ k. false)))) (h .some)))
 
   -- block 0 of a pool segment, whose record has been written
-  module _ (h : Joining ws i spot shape) where
+  module _ (h : GiveJoining ws i spot shape) where
     facts-joining : Sound ws
     facts-joining = sound-facts ws (h .is-sound)
 

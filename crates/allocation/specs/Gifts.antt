@@ -43,7 +43,7 @@ pub record Take (ws : List ℕ) (N i : ℕ) (spot : Spot) (shape : Shape) : Type
   pub r-fits : shape .r < 4096
 
 -- the shape of a block of class i, which is to be given in a sound arena
-pub record Here (ws : List ℕ) (i : ℕ) (spot : Spot) (shape : Shape) : Type 0 where
+pub record GiveHere (ws : List ℕ) (i : ℕ) (spot : Spot) (shape : Shape) : Type 0 where
   pub is-sound : sound ws ≡ true
   pub small : shape .n ≤ 1023
   pub within : shape .r ≤ shape .n
@@ -51,7 +51,7 @@ pub record Here (ws : List ℕ) (i : ℕ) (spot : Spot) (shape : Shape) : Type 0
   pub some : class-has-untaken ws i ≡ true
   pub given : Given ws i spot
 
-pub record Joining (ws : List ℕ) (i : ℕ) (spot : Spot) (shape : Shape) : Type 0 where
+pub record GiveJoining (ws : List ℕ) (i : ℕ) (spot : Spot) (shape : Shape) : Type 0 where
   pub is-sound : sound ws ≡ true
   pub small : shape .n ≤ 1023
   pub within : shape .r ≤ shape .n
@@ -59,6 +59,12 @@ pub record Joining (ws : List ℕ) (i : ℕ) (spot : Spot) (shape : Shape) : Typ
   pub none : class-has-untaken ws i ≡ false
   pub pool : has-pool ws ≡ true
   pub given : Given ws i spot
+
+-- neither refusal 2 nor refusal 3 applies
+pub record Allowed (ws : List ℕ) (n r : ℕ) : Type 0 where
+  pub is-sound : sound ws ≡ true
+  pub small : n ≤ 1023
+  pub within : r ≤ n
 
 -- ---- what is left
 

@@ -11,7 +11,7 @@ ghost use lib.ListN.{length, replicate};
 ghost use Rattle.model.specs.Word.{put};
 ghost use Rattle.model.specs.Layout.{place-at, place-word, record-at, record-words, block-at, header-word};
 ghost use Rattle.model.specs.Calls.{allocated};
-ghost use Rattle.allocation.specs.Gifts.{Cleared, Join, Take, Here, Joining, given-block, taken-words};
+ghost use Rattle.allocation.specs.Gifts.{Cleared, Join, Take, GiveHere, GiveJoining, given-block, taken-words};
 use arena::segments;
 use bitmap::fresh::fresh;
 use crate::find::Spot;
@@ -70,7 +70,7 @@ fn take(arena: &mut [u32], segments: u32, class: u32, spot: Spot, shape: Shape)
 
 // Gives an untaken block of the class's own segments.
 pub fn give(arena: &mut [u32], class: u32, spot: Spot, shape: Shape)
-    requires { ⌜ Here (now arena) class spot shape ⌝ }
+    requires { ⌜ GiveHere (now arena) class spot shape ⌝ }
     ensures { λ _. ⌜ now (arena .exit) ≡ allocated (now (arena .entry)) (shape .n) (shape .r) (shape .tag) ⌝ }
 {
     let n = segments(arena);
@@ -79,7 +79,7 @@ pub fn give(arena: &mut [u32], class: u32, spot: Spot, shape: Shape)
 
 // Gives block 0 of a pool segment, which joins the class.
 pub fn give_joining(arena: &mut [u32], class: u32, spot: Spot, shape: Shape)
-    requires { ⌜ Joining (now arena) class spot shape ⌝ }
+    requires { ⌜ GiveJoining (now arena) class spot shape ⌝ }
     ensures { λ _. ⌜ now (arena .exit) ≡ allocated (now (arena .entry)) (shape .n) (shape .r) (shape .tag) ⌝ }
 {
     let n = segments(arena);

@@ -9,4 +9,4 @@
 pub mod segments;
 pub mod find;
 pub mod give;
-// pub mod allocate;
+pub mod allocate;
