@@ -1,0 +1,2 @@
+// The judge of records and places.
+pub mod heads;
