@@ -6,8 +6,8 @@ use mathlib.Core.Bool.{Bool, true, false, not, _&&_, and-eq-true-iff}
 use native.Mathlib.Nat.{le-antisymm}
 use native.Mathlib.Omega.{arith}
 use borrow.Author.Tests.{not-true, not-false}
-use Rattle.model.specs.Below.{all-below}
-use Rattle.laws.proofs.Below.{all-below-step, all-below-fails}
+use Rattle.model.specs.Below.{one-if, all-below, count-below}
+use Rattle.laws.proofs.Below.{all-below-step, all-below-fails, count-below-step, count-below-le}
 
 -- of n numbers those below k have passed
 pub record Passed (n : ℕ) (p : ℕ → Bool) (k : ℕ) : Type 0 where
@@ -38,3 +38,23 @@ one-fails {n} {p} {k} {t} h l e f = sym (all-below-fails n p k l (failed e f))
 
 pub all-passed : {n : ℕ} {p : ℕ → Bool} {k : ℕ} → Passed n p k → n ≤ k → true ≡ all-below n p
 all-passed {n} {p} {k} h l = sym (ap (λ (m : ℕ). all-below m p) (le-antisymm l (h .within)) ∙ h .all)
+
+-- ---- a loop that counts the numbers below a bound that pass
+
+-- of n numbers those below k have been looked at, and m of them passed
+pub record Counted (n : ℕ) (p : ℕ → Bool) (k m : ℕ) : Type 0 where
+  pub within : k ≤ n
+  pub least : m ≤ k
+  pub so-far : m ≡ count-below k p
+
+pub none-counted : (n : ℕ) (p : ℕ → Bool) → Counted n p 0 0
+unfolding count-below
+none-counted n p = record { within = omega arith; least = omega arith; so-far = refl }
+
+pub one-counted : {n : ℕ} {p : ℕ → Bool} {k m d : ℕ} {t : Bool} → Counted n p k m → k < n → t ≡ p k → d ≡ one-if t → Counted n p (k + 1) (m + d)
+one-counted {n} {p} {k} {m} {d} h l e f =
+    let more : m + d ≡ count-below (k + 1) p = omega (arith, count-below-step k p, ap one-if e) in
+    record { within = omega arith; least = omega (arith, count-below-le (k + 1) p); so-far = more }
+
+pub all-counted : {n : ℕ} {p : ℕ → Bool} {k m : ℕ} → Counted n p k m → n ≤ k → m ≡ count-below n p
+all-counted {n} {p} {k} h l = h .so-far ∙ ap (λ (x : ℕ). count-below x p) (le-antisymm (h .within) l)

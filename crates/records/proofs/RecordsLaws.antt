@@ -1,7 +1,7 @@
 -- Records and what is judged of them.
 -- Assumes nothing.
 use Prim.Native.Nat.{ℕ, zero, suc, _≤_, _<_}
-use mathlib.Core.Path.{_≡_, refl, ap, _∙_}
+use mathlib.Core.Path.{_≡_, refl, sym, ap, _∙_}
 use mathlib.Core.Bool.{Bool, true, false, not, _&&_, _||_}
 use mathlib.Core.List.{List}
 use native.Mathlib.Omega.{arith}
@@ -16,6 +16,8 @@ use Rattle.model.specs.Standing.{in-pool}
 use Rattle.model.specs.Sound.{every-segment, classes}
 use Rattle.records.specs.Judged.{segment-classed}
 use Rattle.laws.proofs.Splice.{length-part}
+use borrow.Author.Tests.{eq-eqb, ne-eqb}
+use Rattle.words.proofs.ClassLaws.{class-bounds}
 use Rattle.arena.specs.Inside.{Segment}
 
 pub record-length : (ws : List ℕ) (s : ℕ) → Segment ws s → length (record-of ws s) ≡ 68
@@ -39,3 +41,15 @@ unfolding classes
 classes-is ws =
     all-below-and (segments ws) (λ s. in-pool ws s || is-class (class ws s))
     (λ s. not (in-pool ws s) || all-below 68 (λ j. eqb (word (record-of ws s) j) 0))
+
+-- ---- a segment in the pool, and a member of a class
+
+pub is-zero : {x y : ℕ} → x ≡ y → x ≡ 0 → eqb y 0 ≡ true
+is-zero {x} {y} e z = eq-eqb y 0 (sym e ∙ z)
+
+pub not-zero : {x y : ℕ} → x ≡ y → (x ≡ 0 → ⊥) → eqb y 0 ≡ false
+not-zero {x} {y} e f = ne-eqb y 0 (λ z. f (e ∙ z))
+
+pub member-class : {x : ℕ} (ws : List ℕ) (s : ℕ) → (in-pool ws s ≡ false → is-class (class ws s) ≡ true) → x ≡ class ws s → (x ≡ 0 → ⊥)
+    → (3 ≤ x) × (x ≤ 12)
+member-class {x} ws s k e f = rw (sym e) at (class-bounds (class ws s) (k (not-zero e f)))

@@ -1,2 +1,4 @@
 // The judge of records and places.
 pub mod heads;
+pub mod ranks;
+pub mod places;
