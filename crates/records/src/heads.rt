@@ -16,7 +16,7 @@ use arena::head_of;
 use arena::place_of;
 use arena::record_of;
 use arena::segments;
-use arena::wide;
+use words::slices::wide;
 
 // An empty slice has no word 0, and so no segments.
 pub fn sized(arena: &[u32]) -> bool

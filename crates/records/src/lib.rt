@@ -2,3 +2,4 @@
 pub mod heads;
 pub mod ranks;
 pub mod places;
+pub mod levels;

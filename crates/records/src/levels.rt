@@ -1,0 +1,132 @@
+// Levels: each word of a record's levels is the one that the level below it makes, with padding; level 0 has its padding.
+//
+// So the levels are judged by the record's own words, each word of a level once for itself and once for the level above.
+ghost use mathlib.Core.Path.{_≡_};
+ghost use mathlib.Core.Bool.{_&&_, _||_};
+ghost use Prim.Native.Nat.{_+_, _-_, _*_, _<_, _≤_, min};
+ghost use lib.Dec.{eqb, leb};
+ghost use lib.ListN.{length};
+ghost use Rattle.model.specs.Word.{word, part, bit, full, word-of-bits};
+ghost use Rattle.model.specs.Layout.{level-at, level-room};
+ghost use Rattle.model.specs.Sound.{levels-right};
+ghost use Rattle.bitmap.specs.Tree.{OfClass, OnLevel};
+ghost use Rattle.records.specs.Own.{own-word, word-right, level-right, WordOf, WordsBelow};
+use bitmap::levels::level_end;
+use bitmap::levels::word_at;
+use words::bits::with_bit;
+use words::class::level_words;
+use words::slices::wide;
+
+// How many bits of word j lie before a level's end.
+fn bits_in(end: u32, j: u32) -> u32
+    requires { ⌜ (32 * j < end) × (j < 64) ⌝ }
+    ensures { λ r. ⌜ r ≡ min 32 (end - 32 * j) ⌝ }
+{
+    let left = end - 32 * j;
+    if left < 32 {
+        return left;
+    }
+    32
+}
+
+// The word that is 1 from bit n on.
+fn padding(n: u32) -> u32
+    requires { ⌜ (1 ≤ n) × (n ≤ 32) ⌝ }
+    ensures { λ r. ⌜ r ≡ word-of-bits (λ b. leb n b) ⌝ }
+{
+    !(0xFFFF_FFFF >> (32 - n))
+}
+
+// The word with bit b set as well if that word below is full.
+fn with_full(w: u32, b: u32, below: u32) -> u32
+    requires { ⌜ b < 32 ⌝ }
+    ensures { λ r. ⌜ r ≡ word-of-bits (λ k. (eqb k b && full below) || bit w k) ⌝ }
+{
+    if below == 0xFFFF_FFFF {
+        return with_bit(w, b);
+    }
+    w
+}
+
+// Which of some words are full.
+fn full_words(ws: &[u32]) -> u32
+    requires { ⌜ length (now ws) ≤ 32 ⌝ }
+    ensures { λ r. ⌜ r ≡ word-of-bits (λ b. full (word (now (ws .entry)) b)) ⌝ }
+{
+    let n = ws.len() as u32;
+    let mut w: u32 = 0;
+    for b in 0..n {
+        w = with_full(w, b, ws[wide(b)]);
+    }
+    w
+}
+
+// Which of the n words from word 32 j on, one level below, are full.
+fn full_below(rec: &[u32], level: u32, j: u32, n: u32) -> u32
+    requires { ⌜ WordsBelow (now rec) level j n ⌝ }
+    ensures { λ r. ⌜ r ≡ word-of-bits (λ b. full (word (part (now (rec .entry)) (level-at (level - 1) + 32 * j) n) b)) ⌝ }
+{
+    let from = word_at(level - 1, 32 * j);
+    let to = from + wide(n);
+    full_words(&rec[from..to])
+}
+
+fn own_word(rec: &[u32], class: u32, level: u32, j: u32) -> u32
+    requires { ⌜ WordOf (now rec) class level j ⌝ }
+    ensures { λ r. ⌜ r ≡ own-word class (now (rec .entry)) level j ⌝ }
+{
+    if level_words(class, level) <= j {
+        return 0;
+    }
+    let n = bits_in(level_end(class, level), j);
+    if level == 0 {
+        return rec[word_at(0, j)] | padding(n);
+    }
+    full_below(rec, level, j, n) | padding(n)
+}
+
+fn word_right(rec: &[u32], class: u32, level: u32, j: u32) -> bool
+    requires { ⌜ WordOf (now rec) class level j ⌝ }
+    ensures { λ r. ⌜ r ≡ word-right class (now (rec .entry)) level j ⌝ }
+{
+    rec[word_at(level, j)] == own_word(rec, class, level, j)
+}
+
+fn level_room(level: u32) -> u32
+    requires { ⌜ level < 3 ⌝ }
+    ensures { λ r. ⌜ r ≡ level-room level ⌝ }
+{
+    if level == 0 {
+        64
+    } else if level == 1 {
+        2
+    } else {
+        1
+    }
+}
+
+fn level_right(rec: &[u32], class: u32, level: u32) -> bool
+    requires { ⌜ OnLevel (now rec) class level ⌝ }
+    ensures { λ r. ⌜ r ≡ level-right class (now (rec .entry)) level ⌝ }
+{
+    let room = level_room(level);
+    for j in 0..room {
+        if !word_right(rec, class, level, j) {
+            return false;
+        }
+    }
+    true
+}
+
+pub fn levels_right(rec: &[u32], class: u32) -> bool
+    requires { ⌜ OfClass (now rec) class ⌝ }
+    ensures { λ r. ⌜ r ≡ levels-right class (now (rec .entry)) ⌝ }
+{
+    if !level_right(rec, class, 0) {
+        return false;
+    }
+    if !level_right(rec, class, 1) {
+        return false;
+    }
+    level_right(rec, class, 2)
+}
