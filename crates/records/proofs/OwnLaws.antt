@@ -22,7 +22,7 @@ use Rattle.laws.proofs.Below.{all-below-at, all-below-ext}
 use Rattle.laws.proofs.Bits.{bit-zero, bit-shift, bit-not, bit-ones, bit-or, bit-past, bit-word-of-bits, word-of-bits-lt, word-ext}
 use Rattle.laws.proofs.Splice.{word-part}
 use Rattle.soundness.proofs.Tests.{Order, is-below, is-same, is-above, order}
-use Rattle.bitmap.proofs.LevelLaws.{level-set, level-word-is, padded-used, padded-ext, words-room}
+use Rattle.bitmap.proofs.LevelLaws.{level-set, level-word-is, padded-used, padded-ext, words-room, level-inside}
 use Rattle.records.specs.Own.{own-set, own-word, word-right, level-right}
 
 -- ---- words by their bits
@@ -112,6 +112,26 @@ own-above i rec (suc l) j n w pad up used count e p =
         let there : level-at l + 32 * j + b ≡ level-at l + (32 * j + b) = omega arith in
         ap (λ (x : ℕ). bit x b) below ∙ bit-word-of-bits (λ b. full (word (part rec (level-at l + 32 * j) n) b)) b (omega arith)
         ∙ ap full (word-part rec (level-at l + 32 * j) n b h ∙ ap (word rec) there)
+
+-- ---- where the words stand
+
+pub room-most : (l : ℕ) → level-room l ≤ 64
+room-most zero = omega arith
+room-most (suc zero) = omega arith
+room-most (suc (suc l)) = omega arith
+
+-- n words of a level from word 32 j on end inside the record
+pub words-inside : (l j n : ℕ) → l < 3 → 1 ≤ n → 32 * j + n ≤ level-room l → level-at l + 32 * j + n ≤ 68
+words-inside l j n l<3 some inside = omega (arith, level-inside l (32 * j + n - 1) l<3 (omega arith))
+
+-- the words below that word j tells of
+pub words-below-inside : (i l j n : ℕ) → is-class i ≡ true → 1 ≤ l → l < 3 → 32 * j < level-end i l → n ≡ min 32 (level-end i l - 32 * j)
+    → 32 * j + n ≤ level-room (l - 1)
+unfolding level-end
+words-below-inside i zero j n class up l<3 begins count = absurd (omega arith)
+words-below-inside i (suc l) j n class up l<3 begins count =
+    let back : suc l - 1 ≡ l = omega arith in
+    rw back (omega (arith, words-room i l class (omega arith)))
 
 -- ---- levels
 

@@ -29,6 +29,13 @@ level-right i rec l = all-below (level-room l) (word-right i rec l)
 
 -- ---- what is asked
 
+-- a level with room for so many words
+pub record LevelOf (rec : List ℕ) (i l room : ℕ) : Type 0 where
+  pub long : length rec ≡ 68
+  pub class : is-class i ≡ true
+  pub level : l < 3
+  pub all : room ≡ level-room l
+
 -- word j of a level
 pub record WordOf (rec : List ℕ) (i l j : ℕ) : Type 0 where
   pub long : length rec ≡ 68
@@ -41,5 +48,6 @@ pub record WordsBelow (rec : List ℕ) (l j n : ℕ) : Type 0 where
   pub long : length rec ≡ 68
   pub above : 1 ≤ l
   pub level : l < 3
+  pub some : 1 ≤ n
   pub few : n ≤ 32
   pub inside : 32 * j + n ≤ level-room (l - 1)

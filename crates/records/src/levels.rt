@@ -7,10 +7,10 @@ ghost use Prim.Native.Nat.{_+_, _-_, _*_, _<_, _≤_, min};
 ghost use lib.Dec.{eqb, leb};
 ghost use lib.ListN.{length};
 ghost use Rattle.model.specs.Word.{word, part, bit, full, word-of-bits};
-ghost use Rattle.model.specs.Layout.{level-at, level-room};
+ghost use Rattle.model.specs.Layout.{level-at};
 ghost use Rattle.model.specs.Sound.{levels-right};
-ghost use Rattle.bitmap.specs.Tree.{OfClass, OnLevel};
-ghost use Rattle.records.specs.Own.{own-word, word-right, level-right, WordOf, WordsBelow};
+ghost use Rattle.bitmap.specs.Tree.{OfClass};
+ghost use Rattle.records.specs.Own.{own-word, word-right, level-right, LevelOf, WordOf, WordsBelow};
 use bitmap::levels::level_end;
 use bitmap::levels::word_at;
 use words::bits::with_bit;
@@ -20,7 +20,7 @@ use words::slices::wide;
 // How many bits of word j lie before a level's end.
 fn bits_in(end: u32, j: u32) -> u32
     requires { ⌜ (32 * j < end) × (j < 64) ⌝ }
-    ensures { λ r. ⌜ r ≡ min 32 (end - 32 * j) ⌝ }
+    ensures { λ r. ⌜ (r ≡ min 32 (end - 32 * j)) × (1 ≤ r) ⌝ }
 {
     let left = end - 32 * j;
     if left < 32 {
@@ -53,10 +53,9 @@ fn full_words(ws: &[u32]) -> u32
     requires { ⌜ length (now ws) ≤ 32 ⌝ }
     ensures { λ r. ⌜ r ≡ word-of-bits (λ b. full (word (now (ws .entry)) b)) ⌝ }
 {
-    let n = ws.len() as u32;
     let mut w: u32 = 0;
-    for b in 0..n {
-        w = with_full(w, b, ws[wide(b)]);
+    for b in 0..ws.len() {
+        w = with_full(w, b as u32, ws[b]);
     }
     w
 }
@@ -92,24 +91,11 @@ fn word_right(rec: &[u32], class: u32, level: u32, j: u32) -> bool
     rec[word_at(level, j)] == own_word(rec, class, level, j)
 }
 
-fn level_room(level: u32) -> u32
-    requires { ⌜ level < 3 ⌝ }
-    ensures { λ r. ⌜ r ≡ level-room level ⌝ }
-{
-    if level == 0 {
-        64
-    } else if level == 1 {
-        2
-    } else {
-        1
-    }
-}
-
-fn level_right(rec: &[u32], class: u32, level: u32) -> bool
-    requires { ⌜ OnLevel (now rec) class level ⌝ }
+// All words for which a level has room.
+fn level_right(rec: &[u32], class: u32, level: u32, room: u32) -> bool
+    requires { ⌜ LevelOf (now rec) class level room ⌝ }
     ensures { λ r. ⌜ r ≡ level-right class (now (rec .entry)) level ⌝ }
 {
-    let room = level_room(level);
     for j in 0..room {
         if !word_right(rec, class, level, j) {
             return false;
@@ -122,11 +108,11 @@ pub fn levels_right(rec: &[u32], class: u32) -> bool
     requires { ⌜ OfClass (now rec) class ⌝ }
     ensures { λ r. ⌜ r ≡ levels-right class (now (rec .entry)) ⌝ }
 {
-    if !level_right(rec, class, 0) {
+    if !level_right(rec, class, 0, 64) {
         return false;
     }
-    if !level_right(rec, class, 1) {
+    if !level_right(rec, class, 1, 2) {
         return false;
     }
-    level_right(rec, class, 2)
+    level_right(rec, class, 2, 1)
 }

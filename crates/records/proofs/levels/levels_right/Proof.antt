@@ -1,0 +1,41 @@
+use borrow.Author.Needs.{needs}
+use Rattle.records.proofs.levels.levels_right.Statement.{statement}
+use Rattle.records.proofs.levels.levels_right.Tie as tie
+use Rattle.records.proofs.levels.levels_right.Reads as reads
+use Rattle.records.proofs.levels.levels_right.Lts as lts
+use Rattle.records.proofs.levels.level_right.Reads as level-right-reads
+
+-- src/levels.rt:111:9
+level-right-requires : tie.Need-level-right-requires
+level-right-requires c κs = search needs
+
+-- src/levels.rt:112:9
+returns : tie.Need-returns
+returns c = search needs
+
+-- src/levels.rt:114:9
+level-right-requires-2 : tie.Need-level-right-requires-2
+level-right-requires-2 c κs = search needs
+
+-- src/levels.rt:115:9
+returns-2 : tie.Need-returns-2
+returns-2 c = search needs
+
+-- src/levels.rt:117:5
+level-right-requires-3 : tie.Need-level-right-requires-3
+level-right-requires-3 c κs = search needs
+
+-- src/levels.rt:107:1
+returns-3 : tie.Need-returns-3
+returns-3 c = search needs
+
+pub levels-right-spec : {M : Type 1} → statement M
+levels-right-spec =
+    tie.close
+    (tie.spec
+    level-right-requires
+    returns
+    level-right-requires-2
+    returns-2
+    level-right-requires-3
+    returns-3)
