@@ -25,6 +25,10 @@ failed {a} {t} e f = sym e ∙ not-true t f
 pub passed : {a t : Bool} → t ≡ a → not t ≡ false → a ≡ true
 passed {a} {t} e f = sym e ∙ not-false t f
 
+-- where it has passed, what stands behind it decides
+pub goes-on : {a b t r : Bool} → t ≡ a → not t ≡ false → r ≡ b → r ≡ (a && b)
+goes-on {a} {b} e f rest = rest ∙ ap (λ (x : Bool). x && b) (sym (passed e f))
+
 -- the loop's test of k has the answer t, which its contract says is p k
 pub one-more : {n : ℕ} {p : ℕ → Bool} {k : ℕ} {t : Bool} → Passed n p k → k < n → t ≡ p k → not t ≡ false → Passed n p (k + 1)
 one-more {n} {p} {k} {t} h l e f =

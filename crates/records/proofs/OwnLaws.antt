@@ -140,11 +140,11 @@ abbrev model-right : ℕ → List ℕ → ℕ → Bool
 model-right i rec l = all-below (level-room l) (λ j. eqb (word rec (level-at l + j)) (level-word i (bit-in rec) l j))
 
 lowest-same : (i : ℕ) (rec : List ℕ) → level-right i rec 0 ≡ model-right i rec 0
-unfolding level-word
+unfolding level-right level-word
 lowest-same i rec = refl
 
 above-same : (i : ℕ) (rec : List ℕ) (l : ℕ) → is-class i ≡ true → l < 3 → model-right i rec l ≡ true → level-right i rec (suc l) ≡ model-right i rec (suc l)
-unfolding level-end
+unfolding level-right level-end
 above-same i rec l class l<3 right =
     all-below-ext (level-room (suc l)) (word-right i rec (suc l)) (λ j. eqb (word rec (level-at (suc l) + j)) (level-word i (bit-in rec) (suc l) j))
     (λ j _. ap (eqb (word rec (level-at (suc l) + j))) (same j))
@@ -159,7 +159,7 @@ above-same i rec l class l<3 right =
         padded-ext (level-words i (suc l)) (level-end i (suc l)) (own-set rec (suc l)) (level-set i (bit-in rec) (suc l)) (λ k h. ap full (below k h)) j
         ∙ sym (level-word-is i (bit-in rec) (suc l) j)
 
-three : (a x y m n : Bool) → (a ≡ true → x ≡ m) → (m ≡ true → y ≡ n) → ((a && x) && y) ≡ ((a && m) && n)
+three : (a x y m n : Bool) → (a ≡ true → x ≡ m) → (m ≡ true → y ≡ n) → (a && (x && y)) ≡ ((a && m) && n)
 three false x y m n f g = refl
 three true x y m n f g = ap (λ (t : Bool). t && y) (f refl) ∙ then m g
   where
@@ -172,7 +172,7 @@ unfolding all-below
 all-three p = refl
 
 pub levels-own : (i : ℕ) (rec : List ℕ) → is-class i ≡ true
-    → ((level-right i rec 0 && level-right i rec 1) && level-right i rec 2) ≡ levels-right i rec
+    → (level-right i rec 0 && (level-right i rec 1 && level-right i rec 2)) ≡ levels-right i rec
 unfolding levels-right
 levels-own i rec class =
     three (level-right i rec 0) (level-right i rec 1) (level-right i rec 2) (model-right i rec 1) (model-right i rec 2)

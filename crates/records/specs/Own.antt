@@ -24,7 +24,7 @@ own-word i rec l j = padded-word (level-words i l) (level-end i l) (own-set rec 
 abbrev pub word-right : ℕ → List ℕ → ℕ → ℕ → Bool
 word-right i rec l j = eqb (word rec (level-at l + j)) (own-word i rec l j)
 
-abbrev pub level-right : ℕ → List ℕ → ℕ → Bool
+unfoldable pub level-right : ℕ → List ℕ → ℕ → Bool
 level-right i rec l = all-below (level-room l) (word-right i rec l)
 
 -- ---- what is asked

@@ -1,3 +1,6 @@
+use mathlib.Core.Path.{ap, ap₂}
+use lib.Dec.{eqb}
+use Rattle.model.specs.Word.{word}
 use borrow.Author.Needs.{needs}
 use Rattle.records.proofs.levels.word_right.Statement.{statement}
 use Rattle.records.proofs.levels.word_right.Tie as tie
@@ -24,7 +27,7 @@ own-word-requires c κs = search needs
 
 -- src/levels.rt:87:1
 returns : tie.Need-returns
-returns c = search needs
+returns c = ap₂ eqb (ap (word (c .before .before .before .before .args .rec .now)) (c .before .before .word-at .ensures .0)) (c .own-word .ensures)
 
 pub word-right-spec : {M : Type 1} → statement M
 word-right-spec =
