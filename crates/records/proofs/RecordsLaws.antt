@@ -6,7 +6,6 @@ use mathlib.Core.Bool.{Bool, true, false, not, _&&_, _||_}
 use mathlib.Core.List.{List}
 use native.Mathlib.Omega.{arith}
 use lib.ListN.{length}
-use Rattle.model.specs.Layout.{record-at}
 use lib.Dec.{eqb}
 use Rattle.model.specs.Below.{all-below}
 use Rattle.model.specs.Word.{word}
@@ -14,15 +13,14 @@ use Rattle.model.specs.Class.{is-class}
 use Rattle.model.specs.View.{segments, record-of, class}
 use Rattle.model.specs.Standing.{in-pool}
 use Rattle.model.specs.Sound.{every-segment, classes}
-use Rattle.records.specs.Judged.{segment-classed}
-use Rattle.laws.proofs.Splice.{length-part}
+use Rattle.records.specs.Judged.{Member, segment-classed}
+use Rattle.soundness.proofs.Facts as Facts
+use Rattle.bitmap.specs.Tree.{OfClass}
 use borrow.Author.Tests.{eq-eqb, ne-eqb}
-use Rattle.words.proofs.ClassLaws.{class-bounds}
 use Rattle.arena.specs.Inside.{Segment}
 
 pub record-length : (ws : List ℕ) (s : ℕ) → Segment ws s → length (record-of ws s) ≡ 68
-unfolding record-of
-record-length ws s h = length-part ws (record-at s) 68 (omega arith)
+record-length ws s h = Facts.record-length ws (record { some = omega arith; few = h .few; long = h .long }) s (h .there)
 
 -- two tests of each number, one after the other or both at once
 all-below-and : (n : ℕ) (p q : ℕ → Bool) → all-below n (λ k. p k && q k) ≡ (all-below n p && all-below n q)
@@ -50,6 +48,12 @@ is-zero {x} {y} e z = eq-eqb y 0 (sym e ∙ z)
 pub not-zero : {x y : ℕ} → x ≡ y → (x ≡ 0 → ⊥) → eqb y 0 ≡ false
 not-zero {x} {y} e f = ne-eqb y 0 (λ z. f (e ∙ z))
 
-pub member-class : {x : ℕ} (ws : List ℕ) (s : ℕ) → (in-pool ws s ≡ false → is-class (class ws s) ≡ true) → x ≡ class ws s → (x ≡ 0 → ⊥)
-    → (3 ≤ x) × (x ≤ 12)
-member-class {x} ws s k e f = rw (sym e) at (class-bounds (class ws s) (k (not-zero e f)))
+pub member-class : {x : ℕ} {ws : List ℕ} {s : ℕ} → Member ws s → x ≡ class ws s → (x ≡ 0 → ⊥) → is-class x ≡ true
+member-class m e f = ap is-class e ∙ m .classed (not-zero e f)
+
+-- the 68 words of its record
+pub member-record : {x : ℕ} {rec ws : List ℕ} {s : ℕ} → Member ws s → rec ≡ record-of ws s → x ≡ class ws s → (x ≡ 0 → ⊥) → OfClass rec x
+member-record {ws = ws} {s = s} m r e f = record {
+  long = ap length r ∙ record-length ws s (record { few = m .few; long = m .long; there = m .there });
+  class = member-class m e f;
+}

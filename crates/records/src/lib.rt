@@ -3,3 +3,4 @@ pub mod heads;
 pub mod ranks;
 pub mod places;
 pub mod levels;
+pub mod members;

@@ -1,15 +1,16 @@
+use Rattle.words.proofs.ClassLaws.{class-bounds}
 use mathlib.Core.Path.{_∙_}
 use Rattle.records.proofs.RecordsLaws.{is-zero, not-zero, member-class}
 use borrow.Author.Needs.{needs}
-use Rattle.records.proofs.places.member_behind.Statement.{statement}
-use Rattle.records.proofs.places.member_behind.Tie as tie
-use Rattle.records.proofs.places.member_behind.Reads as reads
-use Rattle.records.proofs.places.member_behind.Lts as lts
+use Rattle.records.proofs.members.member_behind.Statement.{statement}
+use Rattle.records.proofs.members.member_behind.Tie as tie
+use Rattle.records.proofs.members.member_behind.Reads as reads
+use Rattle.records.proofs.members.member_behind.Lts as lts
 use Rattle.arena.proofs.class.Reads as class-reads
 use Rattle.arena.proofs.count.Reads as count-reads
 use Rattle.arena.proofs.place_of.Reads as place-of-reads
 use Rattle.arena.proofs.rank.Reads as rank-reads
-use Rattle.records.proofs.places.not_full_behind.Reads as not-full-behind-reads
+use Rattle.records.proofs.members.not_full_behind.Reads as not-full-behind-reads
 use Rattle.words.proofs.class.blocks.Reads as blocks-reads
 use Rattle.words.proofs.fields.place_rank.Reads as place-rank-reads
 
@@ -24,7 +25,7 @@ returns c = simp (is-zero (c .before .class .ensures) (c .if1 .taken))
 -- src/places.rt:32:9
 place-of-requires : tie.Need-place-of-requires
 place-of-requires c κs =
-    let k = member-class _ _ (c .before .before .before .pre .classed) (c .before .class .ensures) (c .if1 .left) in
+    let k = class-bounds (c .before .class .result) (member-class (c .before .before .before .pre) (c .before .class .ensures) (c .if1 .left)) in
     (search needs, k .0, k .1)
 
 -- src/places.rt:33:21

@@ -5,12 +5,12 @@ use Rattle.records.proofs.LoopLaws.{Passed, none-yet, one-more, one-fai
 use Rattle.model.specs.Sound.{behind}
 use Rattle.records.specs.Judged.{member-behind}
 use borrow.Author.Needs.{needs}
-use Rattle.records.proofs.places.behind.Statement.{statement}
-use Rattle.records.proofs.places.behind.Tie as tie
-use Rattle.records.proofs.places.behind.Reads as reads
-use Rattle.records.proofs.places.behind.Lts as lts
+use Rattle.records.proofs.members.behind.Statement.{statement}
+use Rattle.records.proofs.members.behind.Tie as tie
+use Rattle.records.proofs.members.behind.Reads as reads
+use Rattle.records.proofs.members.behind.Lts as lts
 use Rattle.arena.proofs.segments.Reads as segments-reads
-use Rattle.records.proofs.places.member_behind.Reads as member-behind-reads
+use Rattle.records.proofs.members.member_behind.Reads as member-behind-reads
 
 abbrev Inv-loop : tie.InvT-loop
 Inv-loop arena n s₀ s = Passed (segments arena) (member-behind arena) s

@@ -1,9 +1,9 @@
 use borrow.Author.Tests.{le-leb, lt-leb}
 use borrow.Author.Needs.{needs}
-use Rattle.records.proofs.places.not_full_behind.Statement.{statement}
-use Rattle.records.proofs.places.not_full_behind.Tie as tie
-use Rattle.records.proofs.places.not_full_behind.Reads as reads
-use Rattle.records.proofs.places.not_full_behind.Lts as lts
+use Rattle.records.proofs.members.not_full_behind.Statement.{statement}
+use Rattle.records.proofs.members.not_full_behind.Tie as tie
+use Rattle.records.proofs.members.not_full_behind.Reads as reads
+use Rattle.records.proofs.members.not_full_behind.Lts as lts
 
 -- src/places.rt:18:1
 returns : tie.Need-returns
