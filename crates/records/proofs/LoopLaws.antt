@@ -25,7 +25,10 @@ failed {a} {t} e f = sym e ∙ not-true t f
 pub passed : {a t : Bool} → t ≡ a → not t ≡ false → a ≡ true
 passed {a} {t} e f = sym e ∙ not-false t f
 
--- where it has passed, what stands behind it decides
+-- of tests in a row one that has failed decides, and behind one that has passed the next
+pub stops : {a t : Bool} (b : Bool) → t ≡ a → not t ≡ true → false ≡ (a && b)
+stops b e f = ap (λ (x : Bool). x && b) (sym (failed e f))
+
 pub goes-on : {a b t r : Bool} → t ≡ a → not t ≡ false → r ≡ b → r ≡ (a && b)
 goes-on {a} {b} e f rest = rest ∙ ap (λ (x : Bool). x && b) (sym (passed e f))
 

@@ -2,7 +2,7 @@
 -- Assumes nothing.
 use Prim.Native.Nat.{ℕ, zero, suc, _≤_, _<_}
 use mathlib.Core.Path.{_≡_, refl, sym, ap, _∙_}
-use mathlib.Core.Bool.{Bool, true, false, not, _&&_, _||_}
+use mathlib.Core.Bool.{Bool, true, false, not, _&&_, _||_, and-assoc}
 use mathlib.Core.List.{List}
 use native.Mathlib.Omega.{arith}
 use lib.ListN.{length}
@@ -12,8 +12,8 @@ use Rattle.model.specs.Word.{word}
 use Rattle.model.specs.Class.{is-class}
 use Rattle.model.specs.View.{segments, record-of, class}
 use Rattle.model.specs.Standing.{in-pool}
-use Rattle.model.specs.Sound.{every-segment, classes}
-use Rattle.records.specs.Judged.{Member, segment-classed}
+use Rattle.model.specs.Sound.{every-segment, sized, classes, taken-right, sound}
+use Rattle.records.specs.Judged.{Sized, Classed, Member, segment-classed, records-sound}
 use Rattle.soundness.proofs.Facts as Facts
 use Rattle.bitmap.specs.Tree.{OfClass}
 use borrow.Author.Tests.{eq-eqb, ne-eqb}
@@ -40,6 +40,21 @@ classes-is ws =
     all-below-and (segments ws) (λ s. in-pool ws s || is-class (class ws s))
     (λ s. not (in-pool ws s) || all-below 68 (λ j. eqb (word (record-of ws s) j) 0))
 
+-- ---- what the first clauses give to the later ones
+
+pub sized-facts : {ws : List ℕ} → sized ws ≡ true → Sized ws
+sized-facts {ws} t = let z = Facts.sized-facts ws t in record { some = z .some; few = z .few; long = z .long }
+
+pub classed-facts : {ws : List ℕ} → sized ws ≡ true → classes ws ≡ true → Classed ws
+classed-facts {ws} z t =
+    let size = Facts.sized-facts ws z in
+    record {
+      some = size .some;
+      few = size .few;
+      long = size .long;
+      classed = λ s l used. Facts.classes-facts ws size t .classed s (record { below = l; used = used });
+    }
+
 -- ---- a segment in the pool, and a member of a class
 
 pub is-zero : {x y : ℕ} → x ≡ y → x ≡ 0 → eqb y 0 ≡ true
@@ -57,3 +72,10 @@ member-record {ws = ws} {s = s} m r e f = record {
   long = ap length r ∙ record-length ws s (record { few = m .few; long = m .long; there = m .there });
   class = member-class m e f;
 }
+
+-- ---- what is left to judge
+
+-- an arena is sound exactly if its records and places are, and its taken blocks are right
+pub sound-is : (ws : List ℕ) → sound ws ≡ (records-sound ws && taken-right ws)
+unfolding sound records-sound
+sound-is ws = simp and-assoc
