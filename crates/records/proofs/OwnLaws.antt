@@ -2,7 +2,6 @@
 -- Assumes nothing.
 use Prim.Native.Nat.{ℕ, zero, suc, _+_, _-_, _*_, _/_, _%_, _^_, _≤_, _<_, min, zero-le}
 use mathlib.Core.Path.{_≡_, refl, sym, ap, _∙_}
-use mathlib.Core.Logic.{_≢_}
 use mathlib.Core.Bool.{Bool, true, false, not, _&&_, _||_, or-true, or-false}
 use mathlib.Core.List.{List}
 use native.Mathlib.Decide.{decLt}
@@ -21,8 +20,8 @@ use Rattle.model.specs.Sound.{levels-right}
 use Rattle.laws.proofs.Below.{all-below-at, all-below-ext}
 use Rattle.laws.proofs.Bits.{bit-zero, bit-shift, bit-not, bit-ones, bit-or, bit-past, bit-word-of-bits, word-of-bits-lt, word-ext}
 use Rattle.laws.proofs.Splice.{word-part}
-use Rattle.soundness.proofs.Tests.{Order, is-below, is-same, is-above, order}
 use Rattle.bitmap.proofs.LevelLaws.{level-set, level-word-is, padded-used, padded-ext, words-room, level-inside}
+use Rattle.soundness.proofs.Tests.{Order, is-below, is-same, is-above, order}
 use Rattle.records.specs.Own.{own-set, own-word, word-right, level-right}
 
 -- ---- words by their bits

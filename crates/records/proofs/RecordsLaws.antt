@@ -1,23 +1,26 @@
--- Records and what is judged of them.
+-- What the first clauses of a sound arena give to the later ones, and what is left to judge where records and places are sound: the taken
+-- blocks.
 -- Assumes nothing.
-use Prim.Native.Nat.{ℕ, zero, suc, _≤_, _<_}
+use Prim.Native.Nat.{ℕ, zero, suc}
 use mathlib.Core.Path.{_≡_, refl, sym, ap, _∙_}
 use mathlib.Core.Bool.{Bool, true, false, not, _&&_, _||_, and-assoc}
 use mathlib.Core.List.{List}
 use native.Mathlib.Omega.{arith}
 use lib.ListN.{length}
 use lib.Dec.{eqb}
+use borrow.Author.Tests.{eq-eqb, ne-eqb}
 use Rattle.model.specs.Below.{all-below}
 use Rattle.model.specs.Word.{word}
 use Rattle.model.specs.Class.{is-class}
 use Rattle.model.specs.View.{segments, record-of, class}
 use Rattle.model.specs.Standing.{in-pool}
 use Rattle.model.specs.Sound.{every-segment, sized, classes, taken-right, sound}
-use Rattle.records.specs.Judged.{Sized, Classed, Member, segment-classed, records-sound}
-use Rattle.soundness.proofs.Facts as Facts
 use Rattle.bitmap.specs.Tree.{OfClass}
-use borrow.Author.Tests.{eq-eqb, ne-eqb}
+use Rattle.soundness.proofs.Facts as Facts
 use Rattle.arena.specs.Inside.{Segment}
+use Rattle.records.specs.Judged.{Sized, Classed, Member, segment-classed, records-sound}
+
+-- ---- records and classes
 
 pub record-length : (ws : List ℕ) (s : ℕ) → Segment ws s → length (record-of ws s) ≡ 68
 record-length ws s h = Facts.record-length ws (record { some = omega arith; few = h .few; long = h .long }) s (h .there)

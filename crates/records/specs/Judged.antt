@@ -1,4 +1,5 @@
--- What the clauses of a sound arena ask of it, each of what the clauses before it gave, and all of them but the last as one test.
+-- What the judge of a clause asks, which the clauses before it have shown; what each clause asks of one segment or class; and all clauses of
+-- a sound arena but the last as one test.
 -- Assumes nothing.
 use Prim.Native.Nat.{ℕ, _≤_, _<_}
 use mathlib.Core.Path.{_≡_}
@@ -7,12 +8,14 @@ use mathlib.Core.List.{List}
 use lib.ListN.{length}
 use lib.Dec.{eqb, leb, ltb}
 use Rattle.model.specs.Below.{all-below, count-below}
-use Rattle.model.specs.Word.{word}
+use Rattle.model.specs.Word.{word, unnamed}
 use Rattle.model.specs.Class.{is-class, blocks}
-use Rattle.model.specs.Layout.{arena-length}
+use Rattle.model.specs.Layout.{arena-length, place-at}
 use Rattle.model.specs.View.{segments, place-rank, record-of, class, rank, count, bit-of, members}
 use Rattle.model.specs.Standing.{in-pool}
 use Rattle.model.specs.Sound.{sized, unnamed-zero, classes, ranks, levels-right, levels, counts, behind, places}
+
+-- ---- what is asked
 
 -- the arena is sized
 pub record Sized (ws : List ℕ) : Type 0 where
@@ -35,12 +38,21 @@ pub record Member (ws : List ℕ) (s : ℕ) : Type 0 where
   pub classed : in-pool ws s ≡ false → is-class (class ws s) ≡ true
 
 -- a sized arena, and one of the ten classes
-pub record OfClass (ws : List ℕ) (i : ℕ) : Type 0 where
+pub record SizedClass (ws : List ℕ) (i : ℕ) : Type 0 where
   pub some : 1 ≤ segments ws
   pub few : segments ws ≤ 64
   pub long : length ws ≡ arena-length (segments ws)
   pub low : 3 ≤ i
   pub high : i ≤ 12
+
+-- ---- of one segment or class
+
+-- what a place or the head of a record holds behind its named bits is 0
+abbrev pub place-named : List ℕ → ℕ → Bool
+place-named ws i = eqb (unnamed 20 (word ws (place-at i))) 0
+
+abbrev pub head-named : List ℕ → ℕ → Bool
+head-named ws s = eqb (unnamed 24 (word (record-of ws s) 0)) 0
 
 -- a segment has a class, or it is in the pool and its whole record is 0
 abbrev pub segment-classed : List ℕ → ℕ → Bool

@@ -1,16 +1,13 @@
 // Word 0, the places and the heads of the records: an arena's size, the bits that are not named, and the classes.
 ghost use mathlib.Core.Path.{_≡_};
-ghost use Prim.Native.Nat.{_≤_};
 ghost use lib.Dec.{eqb};
 ghost use lib.ListN.{length};
 ghost use Rattle.model.specs.Below.{all-below};
-ghost use Rattle.model.specs.Word.{word, unnamed};
+ghost use Rattle.model.specs.Word.{word};
 ghost use Rattle.model.specs.Class.{is-class, every-class};
-ghost use Rattle.model.specs.Layout.{place-at};
-ghost use Rattle.model.specs.View.{record-of};
 ghost use Rattle.model.specs.Sound.{sized, unnamed-zero, classes, every-segment};
 ghost use Rattle.arena.specs.Inside.{Segment};
-ghost use Rattle.records.specs.Judged.{Sized, segment-classed};
+ghost use Rattle.records.specs.Judged.{Sized, SizedClass, place-named, head-named, segment-classed};
 use arena::class;
 use arena::head_of;
 use arena::place_of;
@@ -36,15 +33,15 @@ pub fn sized(arena: &[u32]) -> bool
 }
 
 fn place_named(arena: &[u32], class: u32) -> bool
-    requires { ⌜ (11 ≤ length (now arena)) × (3 ≤ class) × (class ≤ 12) ⌝ }
-    ensures { λ r. ⌜ r ≡ eqb (unnamed 20 (word (now (arena .entry)) (place-at class))) 0 ⌝ }
+    requires { ⌜ SizedClass (now arena) class ⌝ }
+    ensures { λ r. ⌜ r ≡ place-named (now (arena .entry)) class ⌝ }
 {
     place_of(arena, class) % 4096 == 0
 }
 
 fn places_named(arena: &[u32]) -> bool
-    requires { ⌜ 11 ≤ length (now arena) ⌝ }
-    ensures { λ r. ⌜ r ≡ every-class (λ i. eqb (unnamed 20 (word (now (arena .entry)) (place-at i))) 0) ⌝ }
+    requires { ⌜ Sized (now arena) ⌝ }
+    ensures { λ r. ⌜ r ≡ every-class (place-named (now (arena .entry))) ⌝ }
 {
     for c in 0..10 {
         if !place_named(arena, c + 3) {
@@ -56,14 +53,14 @@ fn places_named(arena: &[u32]) -> bool
 
 fn head_named(arena: &[u32], segment: u32) -> bool
     requires { ⌜ Segment (now arena) segment ⌝ }
-    ensures { λ r. ⌜ r ≡ eqb (unnamed 24 (word (record-of (now (arena .entry)) segment) 0)) 0 ⌝ }
+    ensures { λ r. ⌜ r ≡ head-named (now (arena .entry)) segment ⌝ }
 {
     head_of(arena, segment) % 256 == 0
 }
 
 fn heads_named(arena: &[u32]) -> bool
     requires { ⌜ Sized (now arena) ⌝ }
-    ensures { λ r. ⌜ r ≡ every-segment (now (arena .entry)) (λ s. eqb (unnamed 24 (word (record-of (now (arena .entry)) s) 0)) 0) ⌝ }
+    ensures { λ r. ⌜ r ≡ every-segment (now (arena .entry)) (head-named (now (arena .entry))) ⌝ }
 {
     let n = segments(arena);
     for s in 0..n {
@@ -88,7 +85,7 @@ pub fn unnamed_zero(arena: &[u32]) -> bool
 }
 
 // All of some words are 0.
-pub fn zero(ws: &[u32]) -> bool
+fn zero(ws: &[u32]) -> bool
     ensures { λ r. ⌜ r ≡ all-below (length (now (ws .entry))) (λ j. eqb (word (now (ws .entry)) j) 0) ⌝ }
 {
     for j in 0..ws.len() {

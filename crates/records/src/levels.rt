@@ -1,6 +1,7 @@
-// Levels: each word of a record's levels is the one that the level below it makes, with padding; level 0 has its padding.
+// The levels of one record, on its own 68 words.
 //
-// So the levels are judged by the record's own words, each word of a level once for itself and once for the level above.
+// Where a level is right, the level above it is told by the words that stand there. So each level is judged by the one
+// below it, and level 0 by its padding and its unused words; a word is read once for itself and once for the level above.
 ghost use mathlib.Core.Path.{_≡_};
 ghost use mathlib.Core.Bool.{_&&_, _||_};
 ghost use Prim.Native.Nat.{_+_, _-_, _*_, _<_, _≤_, min};
@@ -70,6 +71,7 @@ fn full_below(rec: &[u32], level: u32, j: u32, n: u32) -> u32
     full_words(&rec[from..to])
 }
 
+// The word that stands in a right level: its bits, ones past the level's end, and 0 where the class uses no such word.
 fn own_word(rec: &[u32], class: u32, level: u32, j: u32) -> u32
     requires { ⌜ WordOf (now rec) class level j ⌝ }
     ensures { λ r. ⌜ r ≡ own-word class (now (rec .entry)) level j ⌝ }

@@ -4,6 +4,7 @@ ghost use mathlib.Core.Bool.{_||_};
 ghost use lib.Dec.{leb, ltb};
 ghost use Rattle.model.specs.Sound.{levels, counts, behind};
 ghost use Rattle.records.specs.Judged.{Classed, Member, member-levels, member-counts, member-behind};
+use crate::levels::levels_right;
 use arena::class as class_of;
 use arena::count;
 use arena::place_of;
@@ -11,7 +12,6 @@ use arena::rank;
 use arena::record_of;
 use arena::segments;
 use bitmap::count::count as count_bits;
-use crate::levels::levels_right;
 use words::class::blocks;
 use words::fields::place_rank;
 
@@ -80,7 +80,12 @@ fn member_behind(arena: &[u32], segment: u32) -> bool
         return true;
     }
     let place = place_of(arena, class);
-    not_full_behind(rank(arena, segment), place_rank(place), count(arena, segment), blocks(class))
+    not_full_behind(
+        rank(arena, segment),
+        place_rank(place),
+        count(arena, segment),
+        blocks(class),
+    )
 }
 
 pub fn behind(arena: &[u32]) -> bool

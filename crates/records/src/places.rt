@@ -1,9 +1,9 @@
 // Places: where the allocation place of each class may stand.
 ghost use mathlib.Core.Path.{_≡_};
 ghost use Rattle.model.specs.Sound.{place-right, places};
-ghost use Rattle.records.specs.Judged.{Sized, OfClass, allowed};
-use arena::place_of;
+ghost use Rattle.records.specs.Judged.{Sized, SizedClass, allowed};
 use crate::ranks::members;
+use arena::place_of;
 use words::class::blocks;
 use words::fields::place_index;
 use words::fields::place_rank;
@@ -19,11 +19,16 @@ fn allowed(m: u32, rank: u32, index: u32, blocks: u32) -> bool
 }
 
 fn place_right(arena: &[u32], class: u32) -> bool
-    requires { ⌜ OfClass (now arena) class ⌝ }
+    requires { ⌜ SizedClass (now arena) class ⌝ }
     ensures { λ r. ⌜ r ≡ place-right (now (arena .entry)) class ⌝ }
 {
     let place = place_of(arena, class);
-    allowed(members(arena, class), place_rank(place), place_index(place), blocks(class))
+    allowed(
+        members(arena, class),
+        place_rank(place),
+        place_index(place),
+        blocks(class),
+    )
 }
 
 pub fn places(arena: &[u32]) -> bool

@@ -1,32 +1,24 @@
-use mathlib.Core.Path.{_≡_, refl, sym, ap, _∙_}
+-- `records::heads::classed` meets its contract: a segment in the pool has a record of zeros, and any other a class.
+-- Assumes nothing.
+use mathlib.Core.Path.{_≡_, sym, ap, _∙_}
 use mathlib.Core.Bool.{true, false, and-true}
 use borrow.Author.Tests.{eq-eqb, ne-eqb}
+use borrow.Author.Needs.{needs}
 use Rattle.model.specs.Class.{is-class}
 use Rattle.model.specs.Standing.{in-pool}
 use Rattle.records.proofs.RecordsLaws.{record-length}
-use borrow.Author.Needs.{needs}
 use Rattle.records.proofs.heads.classed.Statement.{statement}
 use Rattle.records.proofs.heads.classed.Tie as tie
-use Rattle.records.proofs.heads.classed.Reads as reads
-use Rattle.records.proofs.heads.classed.Lts as lts
-use Rattle.arena.proofs.class.Reads as class-reads
-use Rattle.arena.proofs.record_of.Reads as record-of-reads
-use Rattle.records.proofs.heads.is_class.Reads as is-class-reads
-use Rattle.records.proofs.heads.zero.Reads as zero-reads
 
--- src/heads.rt:113:9
 class-requires : tie.Need-class-requires
 class-requires c κs = search needs
 
--- src/heads.rt:115:21
 record-of-requires : tie.Need-record-of-requires
 record-of-requires c κs = search needs
 
--- src/heads.rt:115:9
 zero-requires : tie.Need-zero-requires
 zero-requires c κs = search needs
 
--- src/heads.rt:115:9
 returns : tie.Need-returns
 returns c =
     let a = c .before .before .before .before .before .args in
@@ -34,11 +26,9 @@ returns c =
     simp pool
     (c .zero .ensures ∙ rw (c .before .record-of .ensures, record-length (a .arena .now) (a .segment) (c .before .before .before .before .before .pre)))
 
--- src/heads.rt:117:5
 is-class-requires : tie.Need-is-class-requires
 is-class-requires c κs = search needs
 
--- src/heads.rt:109:1
 returns-2 : tie.Need-returns-2
 returns-2 c =
     let a = c .before .before .before .before .args in

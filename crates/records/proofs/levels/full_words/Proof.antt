@@ -1,14 +1,13 @@
+-- `records::levels::full_words` meets its contract: the words passed have told their bits (OwnLaws).
+-- Assumes nothing.
 use Prim.Native.Nat.{_-_, _≤_}
 use mathlib.Core.Path.{_≡_, refl}
 use native.Mathlib.Omega.{arith}
 use lib.ListN.{length}
-use Rattle.records.proofs.OwnLaws.{Told, none-told, one-told, all-told}
 use borrow.Author.Needs.{needs}
+use Rattle.records.proofs.OwnLaws.{Told, none-told, one-told, all-told}
 use Rattle.records.proofs.levels.full_words.Statement.{statement}
 use Rattle.records.proofs.levels.full_words.Tie as tie
-use Rattle.records.proofs.levels.full_words.Reads as reads
-use Rattle.records.proofs.levels.full_words.Lts as lts
-use Rattle.records.proofs.levels.with_full.Reads as with-full-reads
 
 abbrev Inv-loop : tie.InvT-loop
 Inv-loop ws w₀ b₀ b-end w b = (b-end ≡ length ws) × (b ≤ length ws) × Told ws b w
@@ -16,39 +15,30 @@ Inv-loop ws w₀ b₀ b-end w b = (b-end ≡ length ws) × (b ≤ length ws) × 
 abbrev μ-loop : tie.MeasureT-loop
 μ-loop ws w₀ b₀ b-end w b = b-end - b
 
--- src/levels.rt:57:5
 loop-holds : tie.Need-loop-holds Inv-loop μ-loop
 loop-holds c = (refl, search needs, none-told _)
 
--- src/levels.rt:58:26
 cast-with-full : tie.Need-cast-with-full Inv-loop μ-loop
 cast-with-full c = search needs
 
--- src/levels.rt:58:36
 mul-with-full : tie.Need-mul-with-full Inv-loop μ-loop
 mul-with-full c = search needs
 
--- src/levels.rt:58:36
 shared-slice-read-with-full : tie.Need-shared-slice-read-with-full Inv-loop μ-loop
 shared-slice-read-with-full c = search needs
 
--- src/levels.rt:58:9
 with-full-requires : tie.Need-with-full-requires Inv-loop μ-loop
 with-full-requires c κs = search needs
 
--- src/levels.rt:57:9
 add-b : tie.Need-add-b Inv-loop μ-loop
 add-b c = search needs
 
--- src/levels.rt:57:5
 loop-less : tie.Need-loop-less Inv-loop μ-loop
 loop-less c = search needs
 
--- src/levels.rt:57:5
 loop-again : tie.Need-loop-again Inv-loop μ-loop
 loop-again c = (refl, search needs, one-told (c .before .before .before .loop .inv .2) (c .with-full .ensures))
 
--- src/levels.rt:52:1
 returns : tie.Need-returns Inv-loop μ-loop
 returns c = all-told (c .before .loop .inv .2) (omega arith)
 

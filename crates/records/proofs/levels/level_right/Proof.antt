@@ -1,14 +1,13 @@
+-- `records::levels::level_right` meets its contract: the loop of LoopLaws, over the words for which the level has room.
+-- Assumes nothing.
 use Prim.Native.Nat.{_-_}
 use native.Mathlib.Omega.{arith}
+use borrow.Author.Needs.{needs}
 use Rattle.model.specs.Layout.{level-room}
 use Rattle.records.specs.Own.{word-right, level-right}
 use Rattle.records.proofs.LoopLaws.{Passed, none-yet, one-more, one-fails, all-passed}
-use borrow.Author.Needs.{needs}
 use Rattle.records.proofs.levels.level_right.Statement.{statement}
 use Rattle.records.proofs.levels.level_right.Tie as tie
-use Rattle.records.proofs.levels.level_right.Reads as reads
-use Rattle.records.proofs.levels.level_right.Lts as lts
-use Rattle.records.proofs.levels.word_right.Reads as word-right-reads
 
 abbrev Inv-loop : tie.InvT-loop
 Inv-loop rec class level room j₀ j = Passed (level-room level) (word-right class rec level) j
@@ -16,32 +15,25 @@ Inv-loop rec class level room j₀ j = Passed (level-room level) (word-right cla
 abbrev μ-loop : tie.MeasureT-loop
 μ-loop rec class level room j₀ j = room - j
 
--- src/levels.rt:99:5
 loop-holds : tie.Need-loop-holds Inv-loop μ-loop
 loop-holds c = none-yet _ _
 
--- src/levels.rt:100:13
 word-right-requires : tie.Need-word-right-requires Inv-loop μ-loop
 word-right-requires c κs = search needs
 
--- src/levels.rt:101:13
 returns : tie.Need-returns Inv-loop μ-loop
 unfolding level-right
 returns c = one-fails (c .before .before .before .loop .inv) (omega arith) (c .before .word-right .ensures) (c .if1 .taken)
 
--- src/levels.rt:99:9
 add-j : tie.Need-add-j Inv-loop μ-loop
 add-j c = search needs
 
--- src/levels.rt:99:5
 loop-less : tie.Need-loop-less Inv-loop μ-loop
 loop-less c = search needs
 
--- src/levels.rt:99:5
 loop-again : tie.Need-loop-again Inv-loop μ-loop
 loop-again c = one-more (c .before .before .before .loop .inv) (omega arith) (c .before .word-right .ensures) (c .if1 .left)
 
--- src/levels.rt:95:1
 returns-2 : tie.Need-returns-2 Inv-loop μ-loop
 unfolding level-right
 returns-2 c = all-passed (c .before .loop .inv) (omega arith)

@@ -1,23 +1,17 @@
-use Prim.Native.Nat.{ℕ, _+_, _-_, _*_, _^_, _<_, min}
+-- `records::levels::own_word` meets its contract: a word that is not used is 0, and a used one has its bits and its padding (OwnLaws).
+-- Assumes nothing.
+use Prim.Native.Nat.{ℕ, _-_, _*_, _<_, min}
 use mathlib.Core.Path.{_≡_, sym, ap, _∙_}
 use native.Mathlib.Omega.{arith}
+use borrow.Author.Needs.{needs}
 use Rattle.model.specs.Word.{word}
 use Rattle.model.specs.Class.{level-words, level-end}
 use Rattle.words.proofs.ClassLaws.{class-bounds}
 use Rattle.bitmap.proofs.LevelLaws.{words-begin, padded-unused}
 use Rattle.records.specs.Own.{own-set, own-word}
 use Rattle.records.proofs.OwnLaws.{room-most, words-below-inside, own-lowest, own-above}
-use borrow.Author.Needs.{needs}
 use Rattle.records.proofs.levels.own_word.Statement.{statement}
 use Rattle.records.proofs.levels.own_word.Tie as tie
-use Rattle.records.proofs.levels.own_word.Reads as reads
-use Rattle.records.proofs.levels.own_word.Lts as lts
-use Rattle.bitmap.proofs.levels.level_end.Reads as level-end-reads
-use Rattle.bitmap.proofs.levels.word_at.Reads as word-at-reads
-use Rattle.records.proofs.levels.bits_in.Reads as bits-in-reads
-use Rattle.records.proofs.levels.full_below.Reads as full-below-reads
-use Rattle.records.proofs.levels.padding.Reads as padding-reads
-use Rattle.words.proofs.class.level_words.Reads as level-words-reads
 
 -- the word is used, so it begins before the level's end
 used : (c : tie.Else1) → c .before .before .before .args .j < level-words (c .before .before .before .args .class) (c .before .before .before .args .level)
@@ -37,37 +31,29 @@ level-words-requires c κs =
     let k = class-bounds (c .before .args .class) (c .before .pre .class) in
     (k .0, k .1, c .before .pre .level)
 
--- src/levels.rt:78:9
 returns : tie.Need-returns
 returns c =
     let a = c .before .before .before .args in
     sym (padded-unused (level-words (a .class) (a .level)) (level-end (a .class) (a .level)) (own-set (a .rec .now) (a .level)) (a .j) (omega (arith, c .before .level-words .ensures)))
 
--- src/levels.rt:80:21
 level-end-requires : tie.Need-level-end-requires
 level-end-requires c κs = search needs
 
--- src/levels.rt:80:9
 bits-in-requires : tie.Need-bits-in-requires
 bits-in-requires c κs = omega (arith, begins (c .before), c .level-end .ensures, room-most (c .before .before .before .before .args .level))
 
--- src/levels.rt:82:20
 word-at-requires : tie.Need-word-at-requires
 word-at-requires c κs = omega (arith, room-most (c .before .before .before .before .before .before .args .level))
 
--- src/levels.rt:82:16
 mul-result : tie.Need-mul-result
 mul-result c = search needs
 
--- src/levels.rt:82:16
 shared-slice-read-result : tie.Need-shared-slice-read-result
 shared-slice-read-result c = search needs
 
--- src/levels.rt:82:37
 padding-requires : tie.Need-padding-requires
 padding-requires c κs = search needs
 
--- src/levels.rt:82:9
 returns-2 : tie.Need-returns-2
 returns-2 c =
     let a = c .before .before .before .before .before .before .before .before .before .args in
@@ -80,7 +66,6 @@ returns-2 c =
     (omega (arith, c .before .shared-slice-known2 .given at)) (ap (word (a .rec .now)) (c .before .before .word-at .ensures .0)) (c .padding .ensures)
     ∙ ap (λ (l : ℕ). own-word (a .class) (a .rec .now) l (a .j)) (sym lowest)
 
--- src/levels.rt:84:5
 full-below-requires : tie.Need-full-below-requires
 full-below-requires c κs =
     let a = c .before .before .before .before .before .before .args in
@@ -94,11 +79,9 @@ full-below-requires c κs =
       inside = words-below-inside (a .class) (a .level) (a .j) (c .before .bits-in .result) (p .class) (omega arith) (p .level) (begins (c .before .before .before)) (count (c .before));
     }
 
--- src/levels.rt:84:36
 padding-requires-2 : tie.Need-padding-requires-2
 padding-requires-2 c κs = search needs
 
--- src/levels.rt:73:1
 returns-3 : tie.Need-returns-3
 returns-3 c =
     let a = c .before .before .before .before .before .before .before .before .args in

@@ -1,19 +1,16 @@
-use Rattle.records.proofs.OwnLaws.{padding-is}
+-- `records::levels::padding` meets its contract: the ones that the shift leaves are those before bit n (OwnLaws).
+-- Assumes nothing.
 use borrow.Author.Needs.{needs}
+use Rattle.records.proofs.OwnLaws.{padding-is}
 use Rattle.records.proofs.levels.padding.Statement.{statement}
 use Rattle.records.proofs.levels.padding.Tie as tie
-use Rattle.records.proofs.levels.padding.Reads as reads
-use Rattle.records.proofs.levels.padding.Lts as lts
 
--- src/levels.rt:37:23
 sub-result : tie.Need-sub-result
 sub-result c = search needs
 
--- src/levels.rt:37:7
 shr-result : tie.Need-shr-result
 shr-result c = search needs
 
--- src/levels.rt:33:1
 returns : tie.Need-returns
 returns c = padding-is (c .args .n) (c .pre .0) (c .pre .1)
 

@@ -1,22 +1,18 @@
-use Prim.Native.Nat.{ℕ}
+-- `records::levels::with_full` meets its contract: a full word sets the bit, and any other leaves the word as it is.
+-- Assumes nothing.
 use mathlib.Core.Path.{sym, _∙_}
-use mathlib.Core.Bool.{Bool, _&&_, _||_, and-true, and-false}
+use mathlib.Core.Bool.{_&&_, _||_, and-true, and-false}
 use lib.Dec.{eqb}
 use borrow.Author.Tests.{eq-eqb, ne-eqb}
+use borrow.Author.Needs.{needs}
 use Rattle.model.specs.Word.{bit, full, ones}
 use Rattle.laws.proofs.Bits.{word-of-its-bits, word-of-bits-ext}
-use borrow.Author.Needs.{needs}
 use Rattle.records.proofs.levels.with_full.Statement.{statement}
 use Rattle.records.proofs.levels.with_full.Tie as tie
-use Rattle.records.proofs.levels.with_full.Reads as reads
-use Rattle.records.proofs.levels.with_full.Lts as lts
-use Rattle.words.proofs.bits.with_bit.Reads as with-bit-reads
 
--- src/levels.rt:46:9
 with-bit-requires : tie.Need-with-bit-requires
 with-bit-requires c κs = search needs
 
--- src/levels.rt:46:9
 returns : tie.Need-returns
 returns c =
     let a = c .before .before .args in
@@ -24,7 +20,6 @@ returns c =
     c .with-bit .ensures
     ∙ word-of-bits-ext (λ k. eqb k (a .b) || bit (a .w) k) (λ k. (eqb k (a .b) && full (a .below)) || bit (a .w) k) (λ k _. rw (full-below, and-true))
 
--- src/levels.rt:41:1
 returns-2 : tie.Need-returns-2
 returns-2 c =
     let a = c .before .args in

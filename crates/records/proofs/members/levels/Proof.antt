@@ -1,16 +1,14 @@
+-- `records::members::levels` meets its contract: the loop of LoopLaws, over the segments.
+-- Assumes nothing.
 use Prim.Native.Nat.{_-_}
 use native.Mathlib.Omega.{arith}
+use borrow.Author.Needs.{needs}
 use Rattle.model.specs.View.{segments}
-use Rattle.records.proofs.LoopLaws.{Passed, none-yet, one-more, one-fails, all-passed}
 use Rattle.model.specs.Sound.{levels}
 use Rattle.records.specs.Judged.{member-levels}
-use borrow.Author.Needs.{needs}
+use Rattle.records.proofs.LoopLaws.{Passed, none-yet, one-more, one-fails, all-passed}
 use Rattle.records.proofs.members.levels.Statement.{statement}
 use Rattle.records.proofs.members.levels.Tie as tie
-use Rattle.records.proofs.members.levels.Reads as reads
-use Rattle.records.proofs.members.levels.Lts as lts
-use Rattle.arena.proofs.segments.Reads as segments-reads
-use Rattle.records.proofs.members.member_levels.Reads as member-levels-reads
 
 abbrev Inv-loop : tie.InvT-loop
 Inv-loop arena n s₀ s = Passed (segments arena) (member-levels arena) s
@@ -18,15 +16,12 @@ Inv-loop arena n s₀ s = Passed (segments arena) (member-levels arena) s
 abbrev μ-loop : tie.MeasureT-loop
 μ-loop arena n s₀ s = n - s
 
--- src/members.rt:33:9
 segments-requires : tie.Need-segments-requires Inv-loop μ-loop
 segments-requires c κs = search needs
 
--- src/members.rt:34:5
 loop-holds : tie.Need-loop-holds Inv-loop μ-loop
 loop-holds c = none-yet _ _
 
--- src/members.rt:35:13
 member-levels-requires : tie.Need-member-levels-requires Inv-loop μ-loop
 member-levels-requires c κs =
     record {
@@ -36,24 +31,19 @@ member-levels-requires c κs =
       classed = c .before .before .before .before .pre .classed (c .before .loop .s) (search needs);
     }
 
--- src/members.rt:36:13
 returns : tie.Need-returns Inv-loop μ-loop
 unfolding levels
 returns c = one-fails (c .before .before .before .loop .inv) (omega arith) (c .before .member-levels .ensures) (c .if1 .taken)
 
--- src/members.rt:34:9
 add-s : tie.Need-add-s Inv-loop μ-loop
 add-s c = search needs
 
--- src/members.rt:34:5
 loop-less : tie.Need-loop-less Inv-loop μ-loop
 loop-less c = search needs
 
--- src/members.rt:34:5
 loop-again : tie.Need-loop-again Inv-loop μ-loop
 loop-again c = one-more (c .before .before .before .loop .inv) (omega arith) (c .before .member-levels .ensures) (c .if1 .left)
 
--- src/members.rt:29:1
 returns-2 : tie.Need-returns-2 Inv-loop μ-loop
 unfolding levels
 returns-2 c = all-passed (c .before .loop .inv) (omega arith)

@@ -1,13 +1,12 @@
+-- `records::places::places` meets its contract: the loop of LoopLaws, over the ten classes.
+-- Assumes nothing.
 use Prim.Native.Nat.{_-_, _+_}
 use native.Mathlib.Omega.{arith}
-use Rattle.records.proofs.LoopLaws.{Passed, none-yet, one-more, one-fails, all-passed}
-use Rattle.model.specs.Sound.{place-right, places}
 use borrow.Author.Needs.{needs}
+use Rattle.model.specs.Sound.{place-right, places}
+use Rattle.records.proofs.LoopLaws.{Passed, none-yet, one-more, one-fails, all-passed}
 use Rattle.records.proofs.places.places.Statement.{statement}
 use Rattle.records.proofs.places.places.Tie as tie
-use Rattle.records.proofs.places.places.Reads as reads
-use Rattle.records.proofs.places.places.Lts as lts
-use Rattle.records.proofs.places.place_right.Reads as place-right-reads
 
 abbrev Inv-loop : tie.InvT-loop
 Inv-loop arena c₀ c = Passed 10 (λ c. place-right arena (c + 3)) c
@@ -15,36 +14,28 @@ Inv-loop arena c₀ c = Passed 10 (λ c. place-right arena (c + 3)) c
 abbrev μ-loop : tie.MeasureT-loop
 μ-loop arena c₀ c = 10 - c
 
--- src/places.rt:62:5
 loop-holds : tie.Need-loop-holds Inv-loop μ-loop
 loop-holds c = none-yet _ _
 
--- src/places.rt:63:32
 add-place-right : tie.Need-add-place-right Inv-loop μ-loop
 add-place-right c = search needs
 
--- src/places.rt:63:13
 place-right-requires : tie.Need-place-right-requires Inv-loop μ-loop
 place-right-requires c κs = search needs
 
--- src/places.rt:64:13
 returns : tie.Need-returns Inv-loop μ-loop
 unfolding places
 returns c = one-fails (c .before .before .before .loop .inv) (omega arith) (c .before .place-right .ensures) (c .if1 .taken)
 
--- src/places.rt:62:9
 add-c : tie.Need-add-c Inv-loop μ-loop
 add-c c = search needs
 
--- src/places.rt:62:5
 loop-less : tie.Need-loop-less Inv-loop μ-loop
 loop-less c = search needs
 
--- src/places.rt:62:5
 loop-again : tie.Need-loop-again Inv-loop μ-loop
 loop-again c = one-more (c .before .before .before .loop .inv) (omega arith) (c .before .place-right .ensures) (c .if1 .left)
 
--- src/places.rt:58:1
 returns-2 : tie.Need-returns-2 Inv-loop μ-loop
 unfolding places
 returns-2 c = all-passed (c .before .loop .inv) (omega arith)

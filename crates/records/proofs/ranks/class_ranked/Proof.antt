@@ -1,16 +1,14 @@
+-- `records::ranks::class_ranked` meets its contract: the loop of LoopLaws, over the ranks below the number of members.
+-- Assumes nothing.
 use Prim.Native.Nat.{_-_}
 use native.Mathlib.Omega.{arith}
 use lib.Dec.{eqb}
+use borrow.Author.Needs.{needs}
 use Rattle.model.specs.View.{members}
 use Rattle.records.specs.Judged.{holders}
 use Rattle.records.proofs.LoopLaws.{Passed, none-yet, one-more, one-fails, all-passed}
-use borrow.Author.Needs.{needs}
 use Rattle.records.proofs.ranks.class_ranked.Statement.{statement}
 use Rattle.records.proofs.ranks.class_ranked.Tie as tie
-use Rattle.records.proofs.ranks.class_ranked.Reads as reads
-use Rattle.records.proofs.ranks.class_ranked.Lts as lts
-use Rattle.records.proofs.ranks.held_once.Reads as held-once-reads
-use Rattle.records.proofs.ranks.members.Reads as members-reads
 
 abbrev Inv-loop : tie.InvT-loop
 Inv-loop arena class m q₀ q = Passed (members arena class) (λ q. eqb (holders arena class q) 1) q
@@ -18,35 +16,27 @@ Inv-loop arena class m q₀ q = Passed (members arena class) (λ q. eqb (holders
 abbrev μ-loop : tie.MeasureT-loop
 μ-loop arena class m q₀ q = m - q
 
--- src/ranks.rt:74:9
 members-requires : tie.Need-members-requires Inv-loop μ-loop
 members-requires c κs = search needs
 
--- src/ranks.rt:75:5
 loop-holds : tie.Need-loop-holds Inv-loop μ-loop
 loop-holds c = none-yet _ _
 
--- src/ranks.rt:76:13
 held-once-requires : tie.Need-held-once-requires Inv-loop μ-loop
 held-once-requires c κs = search needs
 
--- src/ranks.rt:77:13
 returns : tie.Need-returns Inv-loop μ-loop
 returns c = one-fails (c .before .before .before .loop .inv) (omega arith) (c .before .held-once .ensures) (c .if1 .taken)
 
--- src/ranks.rt:75:9
 add-q : tie.Need-add-q Inv-loop μ-loop
 add-q c = search needs
 
--- src/ranks.rt:75:5
 loop-less : tie.Need-loop-less Inv-loop μ-loop
 loop-less c = search needs
 
--- src/ranks.rt:75:5
 loop-again : tie.Need-loop-again Inv-loop μ-loop
 loop-again c = one-more (c .before .before .before .loop .inv) (omega arith) (c .before .held-once .ensures) (c .if1 .left)
 
--- src/ranks.rt:70:1
 returns-2 : tie.Need-returns-2 Inv-loop μ-loop
 returns-2 c = all-passed (c .before .loop .inv) (omega arith)
 

@@ -1,14 +1,13 @@
+-- `records::ranks::ranks` meets its contract: the loop of LoopLaws, over the ten classes.
+-- Assumes nothing.
 use Prim.Native.Nat.{_-_, _+_}
 use native.Mathlib.Omega.{arith}
-use Rattle.records.proofs.LoopLaws.{Passed, none-yet, one-more, one-fails, all-passed}
+use borrow.Author.Needs.{needs}
 use Rattle.model.specs.Sound.{ranks}
 use Rattle.records.specs.Judged.{class-ranked}
-use borrow.Author.Needs.{needs}
+use Rattle.records.proofs.LoopLaws.{Passed, none-yet, one-more, one-fails, all-passed}
 use Rattle.records.proofs.ranks.ranks.Statement.{statement}
 use Rattle.records.proofs.ranks.ranks.Tie as tie
-use Rattle.records.proofs.ranks.ranks.Reads as reads
-use Rattle.records.proofs.ranks.ranks.Lts as lts
-use Rattle.records.proofs.ranks.class_ranked.Reads as class-ranked-reads
 
 abbrev Inv-loop : tie.InvT-loop
 Inv-loop arena c₀ c = Passed 10 (λ c. class-ranked arena (c + 3)) c
@@ -16,36 +15,28 @@ Inv-loop arena c₀ c = Passed 10 (λ c. class-ranked arena (c + 3)) c
 abbrev μ-loop : tie.MeasureT-loop
 μ-loop arena c₀ c = 10 - c
 
--- src/ranks.rt:87:5
 loop-holds : tie.Need-loop-holds Inv-loop μ-loop
 loop-holds c = none-yet _ _
 
--- src/ranks.rt:88:33
 add-class-ranked : tie.Need-add-class-ranked Inv-loop μ-loop
 add-class-ranked c = search needs
 
--- src/ranks.rt:88:13
 class-ranked-requires : tie.Need-class-ranked-requires Inv-loop μ-loop
 class-ranked-requires c κs = search needs
 
--- src/ranks.rt:89:13
 returns : tie.Need-returns Inv-loop μ-loop
 unfolding ranks
 returns c = one-fails (c .before .before .before .loop .inv) (omega arith) (c .before .class-ranked .ensures) (c .if1 .taken)
 
--- src/ranks.rt:87:9
 add-c : tie.Need-add-c Inv-loop μ-loop
 add-c c = search needs
 
--- src/ranks.rt:87:5
 loop-less : tie.Need-loop-less Inv-loop μ-loop
 loop-less c = search needs
 
--- src/ranks.rt:87:5
 loop-again : tie.Need-loop-again Inv-loop μ-loop
 loop-again c = one-more (c .before .before .before .loop .inv) (omega arith) (c .before .class-ranked .ensures) (c .if1 .left)
 
--- src/ranks.rt:83:1
 returns-2 : tie.Need-returns-2 Inv-loop μ-loop
 unfolding ranks
 returns-2 c = all-passed (c .before .loop .inv) (omega arith)
