@@ -83,8 +83,8 @@ module _ (ws : List ℕ) (sound : Sound ws) (i : ℕ) (c : is-class i ≡ true) 
       let e : class ws s ≡ i = ranked-class ws sound i q c l in
       let before : rank ws s < place-rank ws (class ws s) = omega (arith, ranked-rank ws sound i q c l, ap (place-rank ws) e) in
       let none : first-below (blocks (class ws s)) (λ k. not (taken-at ws s k)) ≡ blocks (class ws s) =
-          none-below (blocks (class ws s)) (λ k. not (taken-at ws s k))
-          (λ k v. ap not (taken-earlier ws s k (block-ranked q k l (omega (arith, ap blocks e))) before)) in
+      none-below (blocks (class ws s)) (λ k. not (taken-at ws s k))
+      (λ k v. ap not (taken-earlier ws s k (block-ranked q k l (omega (arith, ap blocks e))) before)) in
       le-ltb (first-below (blocks (class ws s)) (λ k. not (taken-at ws s k))) (blocks (class ws s)) (omega arith)
 
   -- in the place's own segment the first untaken block is the first free one at or after the place's index
@@ -98,7 +98,7 @@ module _ (ws : List ℕ) (sound : Sound ws) (i : ℕ) (c : is-class i ≡ true) 
       let e : class ws s ≡ i = ranked-class ws sound i q c l in
       let here : rank ws s ≡ place-rank ws (class ws s) = ranked-rank ws sound i q c l ∙ ap (place-rank ws) (sym e) in
       let is : (k : ℕ) → k < blocks i → taken-at ws s k ≡ (ltb k (place-index ws i) || bit-of ws s k) =
-          λ k u. taken-at-place ws s k (block-ranked q k l u) here ∙ ap (λ (j : ℕ). ltb k (place-index ws j) || bit-of ws s k) e in
+      λ k u. taken-at-place ws s k (block-ranked q k l u) here ∙ ap (λ (j : ℕ). ltb k (place-index ws j) || bit-of ws s k) e in
       ap (λ (j : ℕ). first-below (blocks j) (λ k. not (taken-at ws s k))) e
       ∙ first-after (blocks i) (place-index ws i) (λ k. not (taken-at ws s k)) (λ k. not (bit-of ws s k)) (sound .placed i c .index)
       (λ k u. ap not (is k (omega (arith, sound .placed i c .index)) ∙ or-left (ltb k (place-index ws i)) (bit-of ws s k) (lt-ltb k (place-index ws i) u)))
@@ -123,7 +123,7 @@ module _ (ws : List ℕ) (sound : Sound ws) (i : ℕ) (c : is-class i ≡ true) 
       let e : class ws s ≡ i = ranked-class ws sound i q c l in
       let behind : place-rank ws (class ws s) < rank ws s = omega (arith, ranked-rank ws sound i q c l, ap (place-rank ws) e) in
       let few : count-below (blocks i) (bit-of ws s) < blocks i =
-          omega (arith, sound .not-full-behind s m behind, sound .counted s m, ap blocks e, ap (λ (j : ℕ). count-below (blocks j) (bit-of ws s)) e) in
+      omega (arith, sound .not-full-behind s m behind, sound .counted s m, ap blocks e, ap (λ (j : ℕ). count-below (blocks j) (bit-of ws s)) e) in
       omega (arith, first-behind q l u, some-clear (blocks i) (bit-of ws s) few)
 
   -- ---- the first rank with an untaken block

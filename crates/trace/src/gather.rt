@@ -64,10 +64,16 @@ pub fn gather(arena: &[u32], n: u32, queue: &[u32], row: &mut [u32]) -> Run
     let mut end = 0;
     while blocks < queue.len() {
         if row.len() < end + 1023 {
-            return Run { blocks: blocks, end: end };
+            return Run {
+                blocks: blocks,
+                end: end,
+            };
         }
         end = gather_block(arena, n, queue[blocks], row, end);
         blocks += 1;
     }
-    Run { blocks: blocks, end: end }
+    Run {
+        blocks: blocks,
+        end: end,
+    }
 }

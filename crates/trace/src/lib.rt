@@ -4,11 +4,11 @@ pub mod marks;
 
 ghost use mathlib.Core.Path.{_≡_};
 ghost use Rattle.trace.specs.Trace.{Traceable, Traced, Turn, Turned};
-use arena::segments;
 use crate::gather::copy;
 use crate::gather::gather;
 use crate::list::keep_new;
 use crate::list::put_roots;
+use arena::segments;
 
 // Where the queue begins and ends in the list.
 pub struct Queue {
@@ -17,7 +17,15 @@ pub struct Queue {
 }
 
 // One turn: takes blocks off the queue and puts their references on.
-fn turn(arena: &[u32], n: u32, list: &mut [u32], head: usize, tail: usize, marks: &mut [u32], row: &mut [u32]) -> Queue
+fn turn(
+    arena: &[u32],
+    n: u32,
+    list: &mut [u32],
+    head: usize,
+    tail: usize,
+    marks: &mut [u32],
+    row: &mut [u32],
+) -> Queue
     requires { ⌜ Turn (now arena) n (now list) head tail (now marks) (now row) ⌝ }
     ensures { λ r. ⌜ Turned (now (arena .entry)) n (now (list .entry)) head tail (r .head) (r .tail) (now (list .exit)) (now (marks .exit)) ⌝ }
 {

@@ -5,9 +5,9 @@ ghost use Prim.Native.Nat.{_≤_};
 ghost use lib.ListN.{length, take};
 ghost use Rattle.ways.proofs.Put.{put-all};
 ghost use Rattle.trace.specs.List.{On, Root, PutRoot, Roots, Handles, Kept};
-use arena::wide;
 use crate::marks::clear;
 use crate::marks::mark;
+use arena::wide;
 
 // Puts a root on the list, of which the first c words are in use, unless it is 0 or there already. Gives the
 // new c.

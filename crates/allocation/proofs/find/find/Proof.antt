@@ -18,7 +18,7 @@ members-requires : tie.Need-members-requires
 members-requires c κs = whole (c .before .args .arena .now) (c .before .pre .is-sound)
 
 joining-requires : tie.Need-joining-requires
-joining-requires c κs = 
+joining-requires c κs =
     let a = c .before .before .before .args in
     let h = c .before .before .before .pre in
     let m = c .before .members .ensures in
@@ -70,7 +70,7 @@ joining-requires-2 c κs =
     let size = whole (a .arena .now) (h .is-sound) in
     let at : AtPlace (a .arena .now) (a .class) = record { is-sound = h .is-sound; class = h .class; some = omega (arith, c .before .before .before .before .before .before .if1 .left, m) } in
     let none = none-left (a .arena .now) (a .class) at (here .result) (here .ensures) (here .result .rank) (here .ensures .rank)
-        (omega (arith, c .before .before .if2 .left, c .before .before .before .before .blocks2 .ensures)) (omega (arith, c .if3 .left, m)) in
+    (omega (arith, c .before .before .if2 .left, c .before .before .before .before .blocks2 .ensures)) (omega (arith, c .if3 .left, m)) in
     record { few = size .few; long = size .long; none = none; next = m }
 
 returns-4 : tie.Need-returns-4

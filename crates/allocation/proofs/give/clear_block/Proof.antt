@@ -21,7 +21,7 @@ same-length : tie.Need-same-length
 same-length c = search needs
 
 returns : tie.Need-returns
-returns c = 
+returns c =
     let a = c .before .before .before .before .before .before .args in
     cleared (c .before .before .before .clear .last .0) (length (a .block .now)) (c .header .result) _ (c .before .before .before .clear .ensures) (c .before .before .before .before .before .before .pre .some) (c .header .ensures)
 

@@ -30,7 +30,7 @@ same-length : tie.Need-same-length
 same-length c = search needs
 
 returns : tie.Need-returns
-returns c = 
+returns c =
     let a = c .before .before .before .args in
     ap₂ (set (a .arena .now)) (c .wide .ensures) (c .before .place .ensures) ∙ sym (put-one (a .arena .now) (a .class - 2) _ (omega arith))
 

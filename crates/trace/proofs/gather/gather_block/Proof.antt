@@ -67,7 +67,7 @@ returns c =
     let ws = s .args .arena .now in
     let inside = taken-inside ws (s .args .h) (s .pre .0 .right) (s .pre .0 .taken) in
     let behind : Behind (references-of ws (s .args .h)) (s .args .row .now) (s .args .end) (c .before .before .references .result) (c .before .before .references .last .1 .0)
-        = rw (the-block (c .before .before .before .before)) at (c .before .before .references .ensures) in
+    = rw (the-block (c .before .before .before .before)) at (c .before .before .references .ensures) in
     (behind, omega (arith, behind .count, inside .most, length-words-below (r-in (block ws (s .args .h))) (reference-in (block ws (s .args .h)))))
 
 pub gather-block-spec : {M : Type 1} → statement M

@@ -65,13 +65,12 @@ loop-less c = search needs
 loop-again : tie.Need-loop-again Inv-loop μ-loop
 loop-again c =
     let s = c .before .before .before .before .before .before .before .before .before .before .before .before .before .before .before .before .before in
-    let l = c .before .before .before .before .before .before .before .before .before .loop in
-    (
+    let l = c .before .before .before .before .before .before .before .before .before .loop in (
       omega arith,
       omega arith,
       omega arith,
       root-on (s .args .n) (s .args .roots .now) (s .args .list .now) (l .c) (l .list) (l .marks) (l .p) (omega arith) (s .pre .inside (l .p) (omega arith))
-      (l .inv .3) (c .before .before .before .before .put-root .ensures),
+          (l .inv .3) (c .before .before .before .before .put-root .ensures),
     )
 
 -- src/list.rt:26:1
