@@ -1,3 +1,5 @@
+pub mod Collecting
 pub mod Outcomes
+pub mod Refusals
 pub mod Sizes
 pub mod Unique

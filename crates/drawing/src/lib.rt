@@ -5,4 +5,6 @@
 // and leaves, for all inputs and all refusals, is one promise of crate model (specs/Calls), and two
 // outcomes that meet a promise are equal (proofs/Unique).
 
+pub mod allocate;
+pub mod collect;
 pub mod make;
