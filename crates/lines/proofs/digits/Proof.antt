@@ -1,0 +1,63 @@
+use borrow.Author.Needs.{needs}
+use Rattle.lines.proofs.digits.Statement.{statement}
+use Rattle.lines.proofs.digits.Tie as tie
+use Rattle.lines.proofs.digits.Reads as reads
+use Rattle.lines.proofs.digits.Lts as lts
+
+abbrev Inv-loop : tie.InvT-loop
+Inv-loop text at₀ at = ?
+
+abbrev μ-loop : tie.MeasureT-loop
+μ-loop text at₀ at = ?
+
+-- src/lib.rt:33:5
+loop-holds : tie.Need-loop-holds Inv-loop μ-loop
+loop-holds c = search needs
+
+-- src/lib.rt:34:12
+shared-slice-read-if1 : tie.Need-shared-slice-read-if1 Inv-loop μ-loop
+shared-slice-read-if1 c = search needs
+
+-- src/lib.rt:35:13
+returns : tie.Need-returns Inv-loop μ-loop
+returns c = search needs
+
+-- src/lib.rt:37:17
+shared-slice-read-if2 : tie.Need-shared-slice-read-if2 Inv-loop μ-loop
+shared-slice-read-if2 c = search needs
+
+-- src/lib.rt:38:13
+returns-2 : tie.Need-returns-2 Inv-loop μ-loop
+returns-2 c = search needs
+
+-- src/lib.rt:40:9
+add-at : tie.Need-add-at Inv-loop μ-loop
+add-at c = search needs
+
+-- src/lib.rt:33:5
+loop-less : tie.Need-loop-less Inv-loop μ-loop
+loop-less c = search needs
+
+-- src/lib.rt:33:5
+loop-again : tie.Need-loop-again Inv-loop μ-loop
+loop-again c = search needs
+
+-- src/lib.rt:29:1
+returns-3 : tie.Need-returns-3 Inv-loop μ-loop
+returns-3 c = search needs
+
+pub digits-spec : {M : Type 1} → statement M
+digits-spec =
+    tie.close
+    (tie.spec
+    Inv-loop
+    μ-loop
+    loop-holds
+    shared-slice-read-if1
+    returns
+    shared-slice-read-if2
+    returns-2
+    add-at
+    loop-less
+    loop-again
+    returns-3)
