@@ -11,15 +11,15 @@ use Rattle.lines.specs.declared.Order.the-variants as order
 use Rattle.lines.specs.declared.Number.{Number}
 use Rattle.lines.specs.declared.Number.the-variants as number
 
--- the byte of a space, and of the digits 0 and 9; the letters N, L and K
+-- the byte of a space; the digits 0 to 9 are the bytes 48 to 57
 abbrev pub space : ℕ
 space = 32
 
 abbrev pub is-digit : ℕ → Bool
 is-digit b = leb 48 b && leb b 57
 
--- a field is put in front of the others
-abbrev joined : ℕ → List (List ℕ) → List (List ℕ)
+-- a byte is put in front of the first field
+abbrev pub joined : ℕ → List (List ℕ) → List (List ℕ)
 joined b [] = (b ∷ []) ∷ []
 joined b (f ∷ fs) = (b ∷ f) ∷ fs
 
@@ -55,21 +55,21 @@ pub data Meaning : Type 0 where
   collects : List ℕ → Meaning
   bad : Meaning
 
--- what a letter and the numbers behind it mean
-unfoldable pub said : List ℕ → List ℕ → Meaning
+-- what a letter and the numbers behind it mean: N is the byte 78, L is 76, K is 75
+unfoldable pub said : ℕ → List ℕ → Meaning
 said letter ns =
     let three = eqb (length ns) 3 in
     let a = getD ns 0 0 in
     let b = getD ns 1 0 in
     let c = getD ns 2 0 in
-    cond (eqb (getD letter 0 0) 78) (cond (three && leb c 255) (allocates a b c) bad)
-    (cond (eqb (getD letter 0 0) 76) (cond three (links a b c) bad)
-    (cond (eqb (getD letter 0 0) 75) (cond (leb (length ns) 16) (collects ns) bad) bad))
+    cond (eqb letter 78) (cond (three && leb c 255) (allocates a b c) bad)
+    (cond (eqb letter 76) (cond three (links a b c) bad)
+    (cond (eqb letter 75) (cond (leb (length ns) 16) (collects ns) bad) bad))
 
 -- the first field is a letter, and the others are numbers
 unfoldable pub meant : List (List ℕ) → Meaning
 meant [] = bad
-meant (letter ∷ fs) = cond (eqb (length letter) 1 && all-numbers fs) (said letter (map value fs)) bad
+meant (letter ∷ fs) = cond (eqb (length letter) 1 && all-numbers fs) (said (getD letter 0 0) (map value fs)) bad
 
 -- the meaning of a line
 unfoldable pub meaning : List ℕ → Meaning

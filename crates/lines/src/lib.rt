@@ -7,7 +7,6 @@
 ghost use mathlib.Core.Path.{_≡_};
 ghost use mathlib.Core.Bool.{true};
 ghost use Prim.Native.Nat.{_+_, _-_, _*_, _<_, _≤_, min};
-ghost use mathlib.Core.List.{[], _∷_};
 ghost use lib.ListN.{length, take};
 ghost use Rattle.lines.specs.Line.{all-digits, value, Digits, NumberIn, Row, said, meaning, order-meaning};
 
@@ -112,7 +111,7 @@ fn read_numbers(text: &[u8], row: &mut [u32; 16]) -> usize
 // What a letter and so many numbers ask for.
 fn order_of(letter: u8, row: &[u32; 16], count: usize) -> Order
     requires { ⌜ count ≤ 16 ⌝ }
-    ensures { λ r. ⌜ order-meaning r (now (row .entry)) ≡ said (letter ∷ []) (take count (now (row .entry))) ⌝ }
+    ensures { λ r. ⌜ order-meaning r (now (row .entry)) ≡ said letter (take count (now (row .entry))) ⌝ }
 {
     if letter == 75 {
         return Order::Collect(count);
