@@ -6,12 +6,13 @@ use mathlib.Core.Path.{_≡_, refl, sym, ap, _∙_}
 use mathlib.Core.Bool.{Bool, true, false, cond, not, _&&_, false≢true}
 use mathlib.Core.List.{List, [], _∷_, _++_, map, append-nil}
 use native.Mathlib.Omega.{arith}
+use native.Mathlib.Nat.{add-zero}
 use native.Mathlib.Numerals.{add-one}
-use lib.ListN.{length, getD, take, drop}
-use lib.Seq.{take-suc}
+use lib.ListN.{length, getD, take, drop, length-drop, take-append-drop}
+use lib.Seq.{take-suc, getD-drop, length-take-le}
 use lib.Dec.{eqb, leb}
 use borrow.Author.Tests.{leb-true, eqb-true, ne-eqb, le-leb, lt-leb}
-use Rattle.lines.specs.Line.{space, is-digit, joined, fields, value-after, value, all-digits, is-number, all-numbers, good, numbers}
+use Rattle.lines.specs.Line.{space, is-digit, joined, fields, value-after, value, all-digits, is-number, all-numbers, good, numbers, Digits, Found}
 
 -- ---- tests joined by and
 
@@ -108,15 +109,15 @@ fields-digits (b ∷ ds) t all =
     rw (no-space b (and-left (is-digit b) (all-digits ds) all)) (ap (joined b) (fields-digits ds t (and-right (is-digit b) (all-digits ds) all)))
 
 -- a space ends a field, and any other byte begins the first one
-fields-space : (b : ℕ) (t : List ℕ) → eqb b space ≡ true → fields (b ∷ t) ≡ [] ∷ fields t
+pub fields-space : (b : ℕ) (t : List ℕ) → eqb b space ≡ true → fields (b ∷ t) ≡ [] ∷ fields t
 unfolding fields
 fields-space b t e = rw e
 
-abbrev first : List (List ℕ) → List ℕ
+abbrev pub first : List (List ℕ) → List ℕ
 first [] = []
 first (f ∷ fs) = f
 
-abbrev others : List (List ℕ) → List (List ℕ)
+abbrev pub others : List (List ℕ) → List (List ℕ)
 others [] = []
 others (f ∷ fs) = fs
 
@@ -124,7 +125,7 @@ joined-first : (b : ℕ) (fs : List (List ℕ)) → joined b fs ≡ (b ∷ first
 joined-first b [] = refl
 joined-first b (f ∷ fs) = refl
 
-fields-byte : (b : ℕ) (t : List ℕ) → eqb b space ≡ false → fields (b ∷ t) ≡ (b ∷ first (fields t)) ∷ others (fields t)
+pub fields-byte : (b : ℕ) (t : List ℕ) → eqb b space ≡ false → fields (b ∷ t) ≡ (b ∷ first (fields t)) ∷ others (fields t)
 unfolding fields
 fields-byte b t e = rw e (joined-first b (fields t))
 
@@ -166,3 +167,41 @@ module _ (ds : List ℕ) (all : all-digits ds ≡ true) where
   pub numbers-front : (rest : List ℕ) → good rest ≡ true → map value (fields (ds ++ rest)) ≡ value ds ∷ numbers rest
   numbers-front [] g = rw at-end
   numbers-front (b ∷ t) g = rw (at-space b t (and-left _ _ g))
+
+-- ---- one number, behind a space
+
+ends-drop : (r : List ℕ) (n : ℕ) → Digits r n → Ends (drop n r)
+ends-drop r n d h = rw (getD-drop, add-zero) (d .no-more (omega (arith, length-drop n r)))
+
+-- a text that begins with a space is good if the digits behind it are a number and what follows them is good
+pub good-space : (r : List ℕ) (n : ℕ) → Digits r n → good (space ∷ r) ≡ (is-number (take n r) && good (drop n r))
+good-space r n d =
+    ap (λ (t : List ℕ). all-numbers (fields t)) (sym (take-append-drop n r)) ∙ good-front (take n r) (d .digits) (drop n r) (ends-drop r n d)
+
+pub numbers-space : (r : List ℕ) (n : ℕ) → Digits r n → good (drop n r) ≡ true → numbers (space ∷ r) ≡ value (take n r) ∷ numbers (drop n r)
+numbers-space r n d g =
+    ap (λ (t : List ℕ). map value (fields t)) (sym (take-append-drop n r)) ∙ numbers-front (take n r) (d .digits) (drop n r) g
+
+-- no digits, or digits of a large value, are no number; others are one
+module _ (r : List ℕ) (n : ℕ) (d : Digits r n) where
+  pub none-is-bad : n ≡ 0 → good (space ∷ r) ≡ false
+  unfolding is-number
+  none-is-bad e = good-space r n d ∙ rw e
+
+  pub large-is-bad : 4294967295 < value (take n r) → good (space ∷ r) ≡ false
+  unfolding is-number
+  large-is-bad h = good-space r n d ∙ simp (lt-leb _ _ h, and-false)
+
+  is-one : 0 < n → value (take n r) ≤ 4294967295 → is-number (take n r) ≡ true
+  unfolding is-number
+  is-one some h = rw (length-take-le n r (d .within), ne-eqb n 0 (λ e. omega arith), d .digits) (le-leb _ _ h)
+
+  pub found : (v : ℕ) → 0 < n → v ≡ value (take n r) → v ≤ 4294967295 → Found (space ∷ r) v (n + 1)
+  found v some e h =
+      let same : good (space ∷ r) ≡ good (drop n r) = good-space r n d ∙ rw (is-one some (omega arith)) in
+      record
+      { forward = omega arith
+      ; within = omega (arith, d .within)
+      ; same = rw add-one same
+      ; first = λ g. rw (add-one, e) (numbers-space r n d (sym same ∙ g))
+      }

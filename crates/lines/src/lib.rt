@@ -85,7 +85,8 @@ fn read_number(text: &[u8]) -> Number
 }
 
 // Reads the numbers behind the letter into a row: how many, or 17 where there are more or one is bad.
-fn read_numbers(text: &[u8], row: &mut [u32; 16]) -> usize
+fn read_numbers(text: &[u8], row: &mut [u32]) -> usize
+    requires { ⌜ length (now row) ≡ 16 ⌝ }
     ensures { λ r. ⌜ Row (now (text .entry)) (now (row .exit)) r ⌝ }
 {
     let mut at = 0;
@@ -109,8 +110,8 @@ fn read_numbers(text: &[u8], row: &mut [u32; 16]) -> usize
 }
 
 // What a letter and so many numbers ask for.
-fn order_of(letter: u8, row: &[u32; 16], count: usize) -> Order
-    requires { ⌜ count ≤ 16 ⌝ }
+fn order_of(letter: u8, row: &[u32], count: usize) -> Order
+    requires { ⌜ (count ≤ 16) × (length (now row) ≡ 16) ⌝ }
     ensures { λ r. ⌜ order-meaning r (now (row .entry)) ≡ said letter (take count (now (row .entry))) ⌝ }
 {
     if letter == 75 {

@@ -49,8 +49,8 @@ loop-again c =
 -- src/lib.rt:55:1
 returns : tie.Need-returns Inv-loop μ-loop
 returns c =
-    let all : take (c .before .loop .at) (c .before .before .before .args .digits .now) ≡ c .before .before .before .args .digits .now = take-all _ _ (search needs) in
-    c .before .loop .inv .1 ∙ ap (λ (ds : List ℕ). min (value ds) 4294967296) all
+    let ds = c .before .before .before .args .digits .now in
+    c .before .loop .inv .1 ∙ ap (λ (l : List ℕ). min (value l) 4294967296) (take-all (c .before .loop .at) ds (search needs))
 
 pub value-spec : {M : Type 1} → statement M
 value-spec =
