@@ -2,14 +2,14 @@
 -- with a space is its first number, and one in front of anything else is none.
 -- Assumes nothing.
 use Prim.Native.Nat.{ℕ, zero, suc, _+_, _-_, _*_, _≤_, _<_, min}
-use mathlib.Core.Path.{_≡_, refl, sym, ap, _∙_}
+use mathlib.Core.Path.{_≡_, refl, sym, ap, subst, _∙_}
 use mathlib.Core.Bool.{Bool, true, false, cond, not, _&&_, false≢true}
 use mathlib.Core.List.{List, [], _∷_, _++_, map, append-nil}
 use native.Mathlib.Omega.{arith}
 use native.Mathlib.Nat.{add-zero}
 use native.Mathlib.Numerals.{add-one}
 use lib.ListN.{length, getD, take, drop, length-drop, take-append-drop}
-use lib.Seq.{take-suc, getD-drop, length-take-le}
+use lib.Seq.{take-all, drop-cons, take-suc, getD-drop, length-take-le}
 use lib.Dec.{eqb, leb}
 use borrow.Author.Tests.{leb-true, eqb-true, ne-eqb, le-leb, lt-leb}
 use Rattle.lines.specs.Line.{space, is-digit, joined, fields, value-after, value, all-digits, is-number, all-numbers, good, numbers, Digits, Found}
@@ -205,3 +205,30 @@ module _ (r : List ℕ) (n : ℕ) (d : Digits r n) where
       ; same = rw add-one same
       ; first = λ g. rw (add-one, e) (numbers-space r n d (sym same ∙ g))
       }
+
+-- ---- the same of a text whose first byte is a space, and of what is behind that byte as code cuts it out
+
+-- what is cut out from a place to the end
+pub cut-off : (at : ℕ) (text : List ℕ) → take (length text - at) (drop at text) ≡ drop at text
+cut-off at text = take-all (length text - at) (drop at text) (omega (arith, length-drop at text))
+
+pub other-is-bad : (text : List ℕ) → 0 < length text → (getD text 0 0 ≡ space → ⊥) → good text ≡ false
+other-is-bad [] some h = absurd (omega arith)
+other-is-bad (b ∷ text) some h = rw (ne-eqb b 32 h)
+
+module _ (text : List ℕ) (some : 0 < length text) (sp : getD text 0 0 ≡ space) (n : ℕ) (d : Digits (take (length text - 1) (drop 1 text)) n) where
+  abbrev rest : List ℕ
+  rest = take (length text - 1) (drop 1 text)
+
+  whole : space ∷ rest ≡ text
+  whole = rw (cut-off 1 text, ← sp) (sym (drop-cons text 0 0 some))
+
+  pub none-behind : n ≡ 0 → good text ≡ false
+  none-behind e = ap good (sym whole) ∙ none-is-bad rest n d e
+
+  module _ (v : ℕ) (capped : v ≡ min (value (take n rest)) 4294967296) where
+    pub large-behind : 4294967295 < v → good text ≡ false
+    large-behind h = ap good (sym whole) ∙ large-is-bad rest n d (omega arith)
+
+    pub found-behind : (n ≡ 0 → ⊥) → v ≤ 4294967295 → Found text v (n + 1)
+    found-behind ne h = subst (λ (t : List ℕ). Found t v (n + 1)) whole (found rest n d v (omega arith) (omega arith) h)

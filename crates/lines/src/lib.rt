@@ -77,7 +77,7 @@ fn read_number(text: &[u8]) -> Number
     if n == 0 {
         return Number::Bad;
     }
-    let v = value(&rest[0..n]);
+    let v = value(&rest[..n]);
     if 4294967295 < v {
         return Number::Bad;
     }
