@@ -1,3 +1,10 @@
+use Prim.Native.Nat.{ℕ, _+_, _-_}
+use mathlib.Core.List.{List}
+use mathlib.Core.Path.{_≡_, subst}
+use Rattle.lines.specs.Line.{Found, NumberIn}
+use native.Mathlib.Omega.{arith}
+use lib.ListN.{length, take, drop, set}
+use Rattle.lines.proofs.RowLaws.{SoFar, so-far-none, so-far-more, too-many, one-bad, all-read}
 use borrow.Author.Needs.{needs}
 use Rattle.lines.proofs.read_numbers.Statement.{statement}
 use Rattle.lines.proofs.read_numbers.Tie as tie
@@ -6,14 +13,14 @@ use Rattle.lines.proofs.read_numbers.Lts as lts
 use Rattle.lines.proofs.read_number.Reads as read-number-reads
 
 abbrev Inv-loop : tie.InvT-loop
-Inv-loop text row₀ at₀ count₀ row at count = ?
+Inv-loop text row₀ at₀ count₀ row at count = (length row ≡ length row₀) × SoFar text row at count
 
 abbrev μ-loop : tie.MeasureT-loop
-μ-loop text row₀ at₀ count₀ row at count = ?
+μ-loop text row₀ at₀ count₀ row at count = length text - at
 
 -- src/lib.rt:94:5
 loop-holds : tie.Need-loop-holds Inv-loop μ-loop
-loop-holds c = search needs
+loop-holds c = (search needs, so-far-none (c .before .before .args .text .now) (c .before .before .args .row .now) (c .before .before .pre))
 
 -- src/lib.rt:96:13
 same-length : tie.Need-same-length Inv-loop μ-loop
@@ -21,7 +28,10 @@ same-length c = search needs
 
 -- src/lib.rt:96:13
 returns : tie.Need-returns Inv-loop μ-loop
-returns c = search needs
+returns c =
+    let at-loop = c .before .before in
+    let start = at-loop .before .before .before in
+    too-many (start .args .text .now) (at-loop .loop .row) (at-loop .loop .at) (at-loop .loop .count) (at-loop .loop .inv .1) (search needs) (c .if1 .taken)
 
 -- src/lib.rt:98:27
 sub-read-number : tie.Need-sub-read-number Inv-loop μ-loop
@@ -49,7 +59,10 @@ same-length-2 c = search needs
 
 -- src/lib.rt:100:17
 returns-2 : tie.Need-returns-2 Inv-loop μ-loop
-returns-2 c = search needs
+returns-2 c =
+    let at-loop = c .before .before .before .before .before .before in
+    let start = at-loop .before .before .before in
+    one-bad (start .args .text .now) (at-loop .loop .row) (at-loop .loop .at) (at-loop .loop .count) (at-loop .loop .inv .1) (subst (NumberIn _) (c .enum-told .given .1) (c .before .before .read-number .ensures))
 
 -- src/lib.rt:102:27
 enum-known-v : tie.Need-enum-known-v Inv-loop μ-loop
@@ -67,17 +80,55 @@ slice-write-row c = search needs
 add-count : tie.Need-add-count Inv-loop μ-loop
 add-count c = search needs
 
+-- ---- where a number has been read: the text, what was so far, the number and its bytes
+abbrev Turn : Type 0
+Turn = tie.After-known-told Inv-loop μ-loop
+
+abbrev text : Turn → List ℕ
+text c = c .before .before .before .before .before .before .before .before .before .before .args .text .now
+
+abbrev row : Turn → List ℕ
+row c = c .before .before .before .before .before .before .before .loop .row
+
+abbrev at : Turn → ℕ
+at c = c .before .before .before .before .before .before .before .loop .at
+
+abbrev count : Turn → ℕ
+count c = c .before .before .before .before .before .before .before .loop .count
+
+abbrev v : Turn → ℕ
+v c = c .before .v .given .0 .0
+
+abbrev n : Turn → ℕ
+n c = c .before .v .given .0 .1 .0
+
+found : (c : Turn) → Found (take (length (text c) - at c) (drop (at c) (text c))) (v c) (n c)
+found c = subst (NumberIn _) (c .before .v .given .1) (c .before .before .before .read-number .ensures)
+
+next : (c : Turn) → SoFar (text c) (set (row c) (count c) (v c)) (at c + n c) (count c + 1)
+next c =
+    so-far-more
+    (text c)
+    (row c)
+    (at c)
+    (count c)
+    (c .before .before .before .before .before .before .before .loop .inv .1)
+    (v c)
+    (n c)
+    (found c)
+    (c .before .before .before .before .before .if1 .left)
+
 -- src/lib.rt:105:17
 add-at : tie.Need-add-at Inv-loop μ-loop
-add-at c = search needs
+add-at c = omega (arith, next c .within)
 
 -- src/lib.rt:94:5
 loop-less : tie.Need-loop-less Inv-loop μ-loop
-loop-less c = search needs
+loop-less c = omega (arith, next c .within, found c .forward)
 
 -- src/lib.rt:94:5
 loop-again : tie.Need-loop-again Inv-loop μ-loop
-loop-again c = search needs
+loop-again c = (search needs, next c)
 
 -- src/lib.rt:88:1
 same-length-3 : tie.Need-same-length-3 Inv-loop μ-loop
@@ -85,7 +136,10 @@ same-length-3 c = search needs
 
 -- src/lib.rt:88:1
 returns-3 : tie.Need-returns-3 Inv-loop μ-loop
-returns-3 c = search needs
+returns-3 c =
+    let at-loop = c .before in
+    let start = at-loop .before .before .before in
+    all-read (start .args .text .now) (at-loop .loop .row) (at-loop .loop .at) (at-loop .loop .count) (at-loop .loop .inv .1) (search needs)
 
 pub read-numbers-spec : {M : Type 1} → statement M
 read-numbers-spec =
