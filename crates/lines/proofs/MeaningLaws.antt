@@ -1,7 +1,7 @@
 -- What a letter and the numbers behind it mean, case by case, and the meaning of a line that is read as its first byte and the rest.
 -- Assumes nothing.
-use Prim.Native.Nat.{ℕ, suc, _≤_, _<_}
-use mathlib.Core.Path.{_≡_, refl, ap, _∙_}
+use Prim.Native.Nat.{ℕ, suc, _-_, _≤_, _<_}
+use mathlib.Core.Path.{_≡_, refl, sym, ap, _∙_}
 use mathlib.Core.Bool.{Bool, true, false, cond, _&&_}
 use mathlib.Core.List.{List, [], _∷_, map}
 use native.Mathlib.Omega.{arith}
@@ -9,8 +9,8 @@ use lib.ListN.{length, getD, take, drop}
 use lib.Seq.{drop-cons, getD-take, length-take-le}
 use lib.Dec.{eqb, leb}
 use borrow.Author.Tests.{eq-eqb, ne-eqb, le-leb, lt-leb, eqb-true, leb-false}
-use Rattle.lines.specs.Line.{space, fields, all-numbers, value, good, numbers, Meaning, allocates, links, collects, bad, said, meant, meaning}
-use Rattle.lines.proofs.FieldLaws.{and-false, fields-space, fields-byte, first}
+use Rattle.lines.specs.Line.{space, fields, all-numbers, value, good, numbers, Meaning, allocates, links, collects, bad, said, meant, meaning, Row}
+use Rattle.lines.proofs.FieldLaws.{fields-space, fields-byte, first, cut-off}
 
 -- a test that decides nothing
 cond-same : {A : Type 0} (t : Bool) (a : A) → cond t a a ≡ a
@@ -87,28 +87,35 @@ by-first a rest true s = rw (fields-space a rest s, said-space a (numbers rest) 
 by-first a [] false s = rw (fields-byte a [] s)
 by-first a (b ∷ t) false s = by-second a b t s (eqb b space) refl
 
-module _ (text : List ℕ) (some : 0 < length text) (fits : length text ≤ 80) where
-  split : meaning text ≡ cond (good (drop 1 text)) (said (getD text 0 0) (numbers (drop 1 text))) bad
-  unfolding meaning
-  split =
-      rw (le-leb (length text) 80 fits) (ap (λ (t : List ℕ). meant (fields t)) (drop-cons text 0 0 some) ∙ by-first (getD text 0 0) (drop 1 text) (eqb (getD text 0 0) space) refl)
+line-by : (text : List ℕ) → 0 < length text → length text ≤ 80
+  → meaning text ≡ cond (good (drop 1 text)) (said (getD text 0 0) (numbers (drop 1 text))) bad
+unfolding meaning
+line-by text some fits =
+    rw (le-leb (length text) 80 fits)
+    (ap (λ (t : List ℕ). meant (fields t)) (drop-cons text 0 0 some) ∙ by-first (getD text 0 0) (drop 1 text) (eqb (getD text 0 0) space) refl)
 
-  pub good-means : good (drop 1 text) ≡ true → meaning text ≡ said (getD text 0 0) (numbers (drop 1 text))
-  good-means g = split ∙ rw g
+not-good : (letter : ℕ) (g : Bool) (ns : List ℕ) → (g && leb (length ns) 16) ≡ false → cond g (said letter ns) bad ≡ bad
+not-good letter true ns h = said-many letter ns h
+not-good letter false ns h = refl
 
-  not-good : (g : Bool) (ns : List ℕ) → (g && leb (length ns) 16) ≡ false → cond g (said (getD text 0 0) ns) bad ≡ bad
-  not-good true ns h = said-many (getD text 0 0) ns h
-  not-good false ns h = refl
+-- ---- the meaning of a line, by what reading it finds
 
-  pub many-means : (good (drop 1 text) && leb (length (numbers (drop 1 text))) 16) ≡ false → meaning text ≡ bad
-  many-means h = split ∙ not-good (good (drop 1 text)) (numbers (drop 1 text)) h
-
--- an empty line and a longer one are bad
-pub empty-means : (text : List ℕ) → length text ≡ 0 → meaning text ≡ bad
+pub empty-means : (text : List ℕ) → length text ≡ 0 → bad ≡ meaning text
 unfolding meaning meant fields
 empty-means [] e = refl
 empty-means (b ∷ text) e = absurd (omega arith)
 
-pub long-means : (text : List ℕ) → 80 < length text → meaning text ≡ bad
+pub long-means : (text : List ℕ) → 80 < length text → bad ≡ meaning text
 unfolding meaning
 long-means text h = rw (lt-leb (length text) 80 h)
+
+module _ (text : List ℕ) (some : length text ≡ 0 → ⊥) (fits : length text ≤ 80) (row : List ℕ) (count : ℕ) (read : Row (take (length text - 1) (drop 1 text)) row count) where
+  behind : Row (drop 1 text) row count
+  behind = rw cut-off at read
+
+  pub few-means : count ≤ 16 → said (getD text 0 0) (take count row) ≡ meaning text
+  few-means h = sym (line-by text (omega arith) fits ∙ rw (behind .few h .0, behind .few h .1))
+
+  pub many-means : 16 < count → bad ≡ meaning text
+  many-means h =
+      sym (line-by text (omega arith) fits ∙ not-good (getD text 0 0) (good (drop 1 text)) (numbers (drop 1 text)) (behind .many h))

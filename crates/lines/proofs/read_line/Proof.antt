@@ -1,3 +1,5 @@
+use mathlib.Core.Path.{_∙_}
+use Rattle.lines.proofs.MeaningLaws.{empty-means, long-means, few-means, many-means}
 use borrow.Author.Needs.{needs}
 use Rattle.lines.proofs.read_line.Statement.{statement}
 use Rattle.lines.proofs.read_line.Tie as tie
@@ -8,11 +10,11 @@ use Rattle.lines.proofs.read_numbers.Reads as read-numbers-reads
 
 -- src/lib.rt:143:9
 returns : tie.Need-returns
-returns c = ?
+returns c = empty-means (c .before .before .args .text .now) (c .if1 .taken)
 
 -- src/lib.rt:146:9
 returns-2 : tie.Need-returns-2
-returns-2 c = ?
+returns-2 c = long-means (c .before .before .before .args .text .now) (c .if2 .taken)
 
 -- src/lib.rt:148:30
 sub-read-numbers : tie.Need-sub-read-numbers
@@ -32,7 +34,17 @@ read-numbers-requires c κs = search needs
 
 -- src/lib.rt:150:9
 returns-3 : tie.Need-returns-3
-returns-3 c = ?
+returns-3 c =
+    let else2 = c .before .before .before .before in
+    let numbers = c .before .read-numbers in
+    many-means
+    (else2 .before .before .before .args .text .now)
+    (else2 .before .if1 .left)
+    (else2 .if2 .left)
+    (numbers .last .1 .0)
+    (numbers .result)
+    (numbers .ensures)
+    (c .if3 .taken)
 
 -- src/lib.rt:152:14
 shared-slice-read-order-of : tie.Need-shared-slice-read-order-of
@@ -44,7 +56,18 @@ order-of-requires c κs = search needs
 
 -- src/lib.rt:139:1
 returns-4 : tie.Need-returns-4
-returns-4 c = ?
+returns-4 c =
+    let else2 = c .before .before .before .before .before .before .before .before in
+    let numbers = c .before .before .before .before .before .read-numbers in
+    c .order-of .ensures
+    ∙ few-means
+    (else2 .before .before .before .args .text .now)
+    (else2 .before .if1 .left)
+    (else2 .if2 .left)
+    (numbers .last .1 .0)
+    (numbers .result)
+    (numbers .ensures)
+    (c .before .before .before .before .if3 .left)
 
 pub read-line-spec : {M : Type 1} → statement M
 read-line-spec =
