@@ -1,3 +1,4 @@
+pub mod Examples
 pub mod FieldLaws
 pub mod MeaningLaws
 pub mod RowLaws
