@@ -12,7 +12,8 @@ use lib.ListN.{length, getD, take, drop, length-drop, take-append-drop}
 use lib.Seq.{take-all, drop-cons, take-suc, getD-drop, length-take-le}
 use lib.Dec.{eqb, leb}
 use borrow.Author.Tests.{leb-true, eqb-true, ne-eqb, le-leb, lt-leb}
-use Rattle.lines.specs.Line.{space, is-digit, joined, fields, value-after, value, all-digits, is-number, all-numbers, good, numbers, Digits, Found}
+use Rattle.lines.specs.Line.{space, is-digit, joined, fields, value-after, value, all-digits, is-number, all-numbers}
+use Rattle.lines.specs.Reading.{good, numbers, Digits, Found}
 
 -- ---- tests joined by and
 

@@ -9,7 +9,8 @@ use lib.ListN.{length, getD, take, drop}
 use lib.Seq.{drop-cons, getD-take, length-take-le}
 use lib.Dec.{eqb, leb}
 use borrow.Author.Tests.{eq-eqb, ne-eqb, le-leb, lt-leb, eqb-true, leb-false}
-use Rattle.lines.specs.Line.{space, fields, all-numbers, value, good, numbers, Meaning, allocates, links, collects, bad, said, meant, meaning, Row}
+use Rattle.lines.specs.Line.{space, fields, all-numbers, value, Meaning, allocates, links, collects, bad, said, meant, meaning}
+use Rattle.lines.specs.Reading.{good, numbers, Row}
 use Rattle.lines.proofs.FieldLaws.{fields-space, fields-byte, first, cut-off}
 
 -- a test that decides nothing

@@ -10,7 +10,8 @@ use lib.ListN.{length, take, drop, set, length-append, length-drop, length-map, 
 use lib.Seq.{drop-drop, length-take-le, take-suc-set}
 use lib.Dec.{eqb, leb}
 use borrow.Author.Tests.{lt-leb}
-use Rattle.lines.specs.Line.{space, joined, fields, value, good, numbers, Found, Row}
+use Rattle.lines.specs.Line.{space, joined, fields, value}
+use Rattle.lines.specs.Reading.{good, numbers, Found, Row}
 use Rattle.lines.proofs.FieldLaws.{cut-off}
 
 -- the numbers up to a place of the text stand in front of the row, and the text behind that place is still to be read

@@ -1,15 +1,12 @@
 -- What a typed line means. "Lines of at most 80 bytes (newline apart), decimals (leading zeros allowed) parted by single spaces."
 -- Assumes nothing.
-use Prim.Native.Nat.{ℕ, zero, suc, _+_, _-_, _*_, _≤_, _<_}
-use mathlib.Core.Path.{_≡_}
-use mathlib.Core.Bool.{Bool, true, false, cond, not, _&&_, _||_}
+use Prim.Native.Nat.{ℕ, _+_, _-_, _*_}
+use mathlib.Core.Bool.{Bool, true, false, cond, not, _&&_}
 use mathlib.Core.List.{List, [], _∷_, map}
-use lib.ListN.{length, getD, take, drop}
+use lib.ListN.{length, getD, take}
 use lib.Dec.{eqb, leb}
 use Rattle.lines.specs.declared.Order.{Order}
 use Rattle.lines.specs.declared.Order.the-variants as order
-use Rattle.lines.specs.declared.Number.{Number}
-use Rattle.lines.specs.declared.Number.the-variants as number
 
 -- the byte of a space; the digits 0 to 9 are the bytes 48 to 57
 abbrev pub space : ℕ
@@ -75,42 +72,16 @@ meant (letter ∷ fs) = cond (eqb (length letter) 1 && all-numbers fs) (said (ge
 unfoldable pub meaning : List ℕ → Meaning
 meaning text = cond (leb (length text) 80) (meant (fields text)) bad
 
--- ---- how a text is read: what follows the letter
-
--- numbers, each after a space
-abbrev pub good : List ℕ → Bool
-good [] = true
-good (b ∷ text) = eqb b space && all-numbers (fields text)
-
-abbrev pub numbers : List ℕ → List ℕ
-numbers [] = []
-numbers (b ∷ text) = map value (fields text)
-
--- so many digits stand in front, and no more
-pub record Digits (text : List ℕ) (n : ℕ) : Type 0 where
-  pub within : n ≤ length text
-  pub digits : all-digits (take n text) ≡ true
-  pub no-more : n < length text → is-digit (getD text n 0) ≡ false
-
--- what reading one number finds: that the text is not good, or the number and where the text goes on
-pub record Found (text : List ℕ) (v n : ℕ) : Type 0 where
-  pub forward : 0 < n
-  pub within : n ≤ length text
-  pub same : good text ≡ good (drop n text)
-  pub first : good text ≡ true → numbers text ≡ v ∷ numbers (drop n text)
-
-abbrev pub NumberIn : List ℕ → Number → Type 0
-NumberIn text (number.Value v n) = Found text v n
-NumberIn text number.Bad = good text ≡ false
-
--- what reading all of them finds: so many in a row, or that the text is not good or has more than 16
-pub record Row (text : List ℕ) (row : List ℕ) (count : ℕ) : Type 0 where
-  pub few : count ≤ 16 → (good text ≡ true) × (numbers text ≡ take count row)
-  pub many : 16 < count → (good text && leb (length (numbers text)) 16) ≡ false
-
 -- what an order says, with the row that holds the roots
 abbrev pub order-meaning : Order → List ℕ → Meaning
 order-meaning (order.Allocate n r tag) row = allocates n r tag
 order-meaning (order.Link h f v) row = links h f v
 order-meaning (order.Collect count) row = collects (take count row)
 order-meaning order.Bad row = bad
+
+-- how many roots of the row it names
+abbrev pub roots-of : Order → ℕ
+roots-of (order.Allocate n r tag) = 0
+roots-of (order.Link h f v) = 0
+roots-of (order.Collect count) = count
+roots-of order.Bad = 0

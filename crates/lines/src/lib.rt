@@ -8,7 +8,8 @@ ghost use mathlib.Core.Path.{_≡_};
 ghost use mathlib.Core.Bool.{true};
 ghost use Prim.Native.Nat.{_+_, _-_, _*_, _<_, _≤_, min};
 ghost use lib.ListN.{length, take};
-ghost use Rattle.lines.specs.Line.{all-digits, value, Digits, NumberIn, Row, said, meaning, order-meaning};
+ghost use Rattle.lines.specs.Line.{all-digits, value, said, meaning, order-meaning, roots-of};
+ghost use Rattle.lines.specs.Reading.{Digits, NumberIn, Row};
 
 // What a line asks for. The roots of a collection stand in a row beside it.
 pub enum Order {
@@ -112,7 +113,8 @@ fn read_numbers(text: &[u8], row: &mut [u32]) -> usize
 // What a letter and so many numbers ask for.
 fn order_of(letter: u8, row: &[u32], count: usize) -> Order
     requires { ⌜ (count ≤ 16) × (length (now row) ≡ 16) ⌝ }
-    ensures { λ r. ⌜ order-meaning r (now (row .entry)) ≡ said letter (take count (now (row .entry))) ⌝ }
+    ensures means { λ r. ⌜ order-meaning r (now (row .entry)) ≡ said letter (take count (now (row .entry))) ⌝ }
+    ensures few { λ r. ⌜ roots-of r ≤ 16 ⌝ }
 {
     if letter == 75 {
         return Order::Collect(count);
@@ -137,7 +139,8 @@ fn order_of(letter: u8, row: &[u32], count: usize) -> Order
 
 // Reads a line. Where it collects, the row holds the roots.
 pub fn read_line(text: &[u8], row: &mut [u32; 16]) -> Order
-    ensures { λ r. ⌜ order-meaning r (now (row .exit)) ≡ meaning (now (text .entry)) ⌝ }
+    ensures means { λ r. ⌜ order-meaning r (now (row .exit)) ≡ meaning (now (text .entry)) ⌝ }
+    ensures few { λ r. ⌜ roots-of r ≤ 16 ⌝ }
 {
     if text.len() == 0 {
         return Order::Bad;

@@ -9,13 +9,13 @@ use Rattle.lines.proofs.order_of.Lts as lts
 returns : tie.Need-returns
 returns c =
     let start = c .before in
-    said-collects (start .args .letter) (start .args .row .now) (start .args .count) (start .pre .0) (start .pre .1) (c .if1 .taken)
+    (said-collects (start .args .letter) (start .args .row .now) (start .args .count) (start .pre .0) (start .pre .1) (c .if1 .taken), search needs)
 
 -- src/lib.rt:121:9
 returns-2 : tie.Need-returns-2
 returns-2 c =
     let start = c .before .before in
-    said-count (start .args .letter) (start .args .row .now) (start .args .count) (start .pre .0) (start .pre .1) (c .before .if1 .left) (c .if2 .taken)
+    (said-count (start .args .letter) (start .args .row .now) (start .args .count) (start .pre .0) (start .pre .1) (c .before .if1 .left) (c .if2 .taken), search needs)
 
 -- src/lib.rt:123:13
 shared-slice-read-a : tie.Need-shared-slice-read-a
@@ -33,19 +33,19 @@ shared-slice-read-c c = search needs
 returns-3 : tie.Need-returns-3
 returns-3 c =
     let start = c .before .before .before .before .before .before in
-    said-links (start .args .letter) (start .args .row .now) (start .args .count) (start .pre .0) (start .pre .1) (c .if3 .taken) (c .before .before .before .before .if2 .left)
+    (said-links (start .args .letter) (start .args .row .now) (start .args .count) (start .pre .0) (start .pre .1) (c .if3 .taken) (c .before .before .before .before .if2 .left), search needs)
 
 -- src/lib.rt:130:9
 returns-4 : tie.Need-returns-4
 returns-4 c =
     let start = c .before .before .before .before .before .before .before in
-    said-other (start .args .letter) (start .args .row .now) (start .args .count) (start .pre .0) (start .pre .1) (c .before .before .before .before .before .before .if1 .left) (c .before .if3 .left) (c .if4 .taken)
+    (said-other (start .args .letter) (start .args .row .now) (start .args .count) (start .pre .0) (start .pre .1) (c .before .before .before .before .before .before .if1 .left) (c .before .if3 .left) (c .if4 .taken), search needs)
 
 -- src/lib.rt:133:9
 returns-5 : tie.Need-returns-5
 returns-5 c =
     let start = c .before .before .before .before .before .before .before .before in
-    said-tag (start .args .letter) (start .args .row .now) (start .args .count) (start .pre .0) (start .pre .1) (c .before .if4 .left) (c .before .before .before .before .before .before .if2 .left) (c .if5 .taken)
+    (said-tag (start .args .letter) (start .args .row .now) (start .args .count) (start .pre .0) (start .pre .1) (c .before .if4 .left) (c .before .before .before .before .before .before .if2 .left) (c .if5 .taken), search needs)
 
 -- src/lib.rt:135:27
 cast-t12 : tie.Need-cast-t12
@@ -55,7 +55,7 @@ cast-t12 c = search needs
 returns-6 : tie.Need-returns-6
 returns-6 c =
     let start = c .before .before .before .before .before .before .before .before in
-    said-allocates (start .args .letter) (start .args .row .now) (start .args .count) (start .pre .0) (start .pre .1) (c .before .if4 .left) (c .before .before .before .before .before .before .if2 .left) (c .if5 .left)
+    (said-allocates (start .args .letter) (start .args .row .now) (start .args .count) (start .pre .0) (start .pre .1) (c .before .if4 .left) (c .before .before .before .before .before .before .if2 .left) (c .if5 .left), search needs)
 
 pub order-of-spec : {M : Type 1} → statement M
 order-of-spec =

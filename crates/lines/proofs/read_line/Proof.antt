@@ -10,11 +10,11 @@ use Rattle.lines.proofs.read_numbers.Reads as read-numbers-reads
 
 -- src/lib.rt:143:9
 returns : tie.Need-returns
-returns c = empty-means (c .before .before .args .text .now) (c .if1 .taken)
+returns c = (empty-means (c .before .before .args .text .now) (c .if1 .taken), search needs)
 
 -- src/lib.rt:146:9
 returns-2 : tie.Need-returns-2
-returns-2 c = long-means (c .before .before .before .args .text .now) (c .if2 .taken)
+returns-2 c = (long-means (c .before .before .before .args .text .now) (c .if2 .taken), search needs)
 
 -- src/lib.rt:148:30
 sub-read-numbers : tie.Need-sub-read-numbers
@@ -37,7 +37,7 @@ returns-3 : tie.Need-returns-3
 returns-3 c =
     let else2 = c .before .before .before .before in
     let numbers = c .before .read-numbers in
-    many-means
+    ( many-means
     (else2 .before .before .before .args .text .now)
     (else2 .before .if1 .left)
     (else2 .if2 .left)
@@ -45,6 +45,7 @@ returns-3 c =
     (numbers .result)
     (numbers .ensures)
     (c .if3 .taken)
+    , search needs)
 
 -- src/lib.rt:152:14
 shared-slice-read-order-of : tie.Need-shared-slice-read-order-of
@@ -59,7 +60,7 @@ returns-4 : tie.Need-returns-4
 returns-4 c =
     let else2 = c .before .before .before .before .before .before .before .before in
     let numbers = c .before .before .before .before .before .read-numbers in
-    c .order-of .ensures
+    ( c .order-of .ensures .0
     ∙ few-means
     (else2 .before .before .before .args .text .now)
     (else2 .before .if1 .left)
@@ -68,6 +69,7 @@ returns-4 c =
     (numbers .result)
     (numbers .ensures)
     (c .before .before .before .before .if3 .left)
+    , c .order-of .ensures .1)
 
 pub read-line-spec : {M : Type 1} → statement M
 read-line-spec =

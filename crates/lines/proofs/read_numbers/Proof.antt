@@ -1,7 +1,7 @@
 use Prim.Native.Nat.{ℕ, _+_, _-_}
 use mathlib.Core.List.{List}
 use mathlib.Core.Path.{_≡_, subst}
-use Rattle.lines.specs.Line.{Found, NumberIn}
+use Rattle.lines.specs.Reading.{Found, NumberIn}
 use native.Mathlib.Omega.{arith}
 use lib.ListN.{length, take, drop, set}
 use Rattle.lines.proofs.RowLaws.{SoFar, so-far-none, so-far-more, too-many, one-bad, all-read}
