@@ -4,7 +4,7 @@ use Prim.Native.Nat.{ℕ, zero, suc}
 use mathlib.Core.Path.{_≡_, refl}
 use mathlib.Core.List.{List, [], _∷_}
 use lib.ListN.{replicate}
-use Rattle.lines.specs.Line.{fields, value-after, all-digits, is-number, all-numbers, Meaning, allocates, links, collects, bad, said, meant, meaning}
+use Rattle.lines.specs.Line.{fields, value-after, all-digits, is-number, all-numbers, allocates, links, collects, bad, said, meant, meaning}
 
 -- so many roots, each the number 1 after a space
 abbrev roots : ℕ → List ℕ

@@ -3,15 +3,16 @@
 use Prim.Native.Nat.{ℕ, suc, _-_, _≤_, _<_}
 use mathlib.Core.Path.{_≡_, refl, sym, ap, _∙_}
 use mathlib.Core.Bool.{Bool, true, false, cond, _&&_}
-use mathlib.Core.List.{List, [], _∷_, map}
+use mathlib.Core.List.{List, [], _∷_}
 use native.Mathlib.Omega.{arith}
 use lib.ListN.{length, getD, take, drop}
 use lib.Seq.{drop-cons, getD-take, length-take-le}
 use lib.Dec.{eqb, leb}
 use borrow.Author.Tests.{eq-eqb, ne-eqb, le-leb, lt-leb, eqb-true, leb-false}
-use Rattle.lines.specs.Line.{space, fields, all-numbers, value, Meaning, allocates, links, collects, bad, said, meant, meaning}
+use Rattle.lines.specs.Line.{space, fields, all-numbers, allocates, links, collects, bad, said, meant, meaning}
 use Rattle.lines.specs.Reading.{good, numbers, Row}
-use Rattle.lines.proofs.FieldLaws.{fields-space, fields-byte, first, cut-off}
+use Rattle.lines.proofs.FieldLaws.{fields-space, fields-byte, first}
+use Rattle.lines.proofs.NumberLaws.{cut-off}
 
 -- a test that decides nothing
 cond-same : {A : Type 0} (t : Bool) (a : A) → cond t a a ≡ a
@@ -49,17 +50,18 @@ module _ (letter : ℕ) (row : List ℕ) (count : ℕ) (few : count ≤ 16) (lon
   said-tag e n tag = simp (e, counted, eq-eqb count 3 n, at-place 2 (omega arith), lt-leb (getD row 2 0) 255 tag)
 
   pub said-allocates : letter ≡ 78 → count ≡ 3 → getD row 2 0 ≤ 255
-    → allocates (getD row 0 0) (getD row 1 0) (getD row 2 0) ≡ said letter (take count row)
+      → allocates (getD row 0 0) (getD row 1 0) (getD row 2 0) ≡ said letter (take count row)
   unfolding said
   said-allocates e n tag =
-      simp
-      ( e
-      , counted
-      , eq-eqb count 3 n
-      , at-place 0 (omega arith)
-      , at-place 1 (omega arith)
-      , at-place 2 (omega arith)
-      , le-leb (getD row 2 0) 255 tag)
+      simp (
+        e,
+        counted,
+        eq-eqb count 3 n,
+        at-place 0 (omega arith),
+        at-place 1 (omega arith),
+        at-place 2 (omega arith),
+        le-leb (getD row 2 0) 255 tag,
+      )
 
 -- ---- a line as its first byte and the rest
 
@@ -77,7 +79,7 @@ said-space letter ns e = rw (eqb-true letter 32 e)
 
 -- the first byte is a field of its own where the rest is good, and otherwise the line is bad
 by-second : (a b : ℕ) (t : List ℕ) → eqb a space ≡ false → (s : Bool) → eqb b space ≡ s
-  → meant (fields (a ∷ b ∷ t)) ≡ cond (good (b ∷ t)) (said a (numbers (b ∷ t))) bad
+    → meant (fields (a ∷ b ∷ t)) ≡ cond (good (b ∷ t)) (said a (numbers (b ∷ t))) bad
 unfolding meant
 by-second a b t e true s = rw (fields-byte a (b ∷ t) e, fields-space b t s, s)
 by-second a b t e false s = rw (fields-byte a (b ∷ t) e, fields-byte b t s, s, ne-eqb (suc (suc (length (first (fields t))))) 1 (λ e'. omega arith))
@@ -89,7 +91,7 @@ by-first a [] false s = rw (fields-byte a [] s)
 by-first a (b ∷ t) false s = by-second a b t s (eqb b space) refl
 
 line-by : (text : List ℕ) → 0 < length text → length text ≤ 80
-  → meaning text ≡ cond (good (drop 1 text)) (said (getD text 0 0) (numbers (drop 1 text))) bad
+    → meaning text ≡ cond (good (drop 1 text)) (said (getD text 0 0) (numbers (drop 1 text))) bad
 unfolding meaning
 line-by text some fits =
     rw (le-leb (length text) 80 fits)

@@ -1,18 +1,18 @@
 -- Reading numbers into a row, one after the other: what has been read, and what is behind it.
 -- Assumes nothing.
-use Prim.Native.Nat.{ℕ, suc, _+_, _-_, _≤_, _<_}
+use Prim.Native.Nat.{ℕ, _+_, _-_, _≤_, _<_}
 use mathlib.Core.Path.{_≡_, refl, sym, ap, _∙_}
 use mathlib.Core.Bool.{Bool, true, false, cond, _&&_}
-use mathlib.Core.List.{List, [], _∷_, _++_, map, append-assoc, append-nil}
+use mathlib.Core.List.{List, [], _∷_, _++_, append-assoc, append-nil}
 use native.Mathlib.Omega.{arith}
 use native.Mathlib.Numerals.{add-one}
 use lib.ListN.{length, take, drop, set, length-append, length-drop, length-map, length-set, drop-of-length-le}
 use lib.Seq.{drop-drop, length-take-le, take-suc-set}
 use lib.Dec.{eqb, leb}
 use borrow.Author.Tests.{lt-leb}
-use Rattle.lines.specs.Line.{space, joined, fields, value}
+use Rattle.lines.specs.Line.{space, joined, fields}
 use Rattle.lines.specs.Reading.{good, numbers, Found, Row}
-use Rattle.lines.proofs.FieldLaws.{cut-off}
+use Rattle.lines.proofs.NumberLaws.{cut-off}
 
 -- the numbers up to a place of the text stand in front of the row, and the text behind that place is still to be read
 pub record SoFar (text row : List ℕ) (at count : ℕ) : Type 0 where
@@ -31,12 +31,13 @@ module _ (text row : List ℕ) (at count : ℕ) (s : SoFar text row at count) (v
   so-far-more room =
       let f' : Found (drop at text) v n = rw cut-off at f in
       let below : count < length row = omega (arith, s) in
-      record
-      { within = omega (arith, s .within, f' .within, length-drop at text)
-      ; few = omega (arith, s)
-      ; long = length-set row count v ∙ s .long
-      ; same = s .same ∙ f' .same ∙ ap good (drop-drop n at text)
-      ; first = λ g. s .first g ∙ ap (λ (ns : List ℕ). take count row ++ ns) (f' .first (sym (s .same) ∙ g)) ∙ rw (add-one, take-suc-set row count v below, append-assoc, drop-drop)
+      let one-more : take (count + 1) (set row count v) ≡ take count row ++ (v ∷ []) = rw (add-one, take-suc-set row count v below) in
+      record {
+        within = omega (arith, s .within, f' .within, length-drop at text);
+        few = omega (arith, s);
+        long = length-set row count v ∙ s .long;
+        same = s .same ∙ f' .same ∙ ap good (drop-drop n at text);
+        first = λ g. s .first g ∙ rw (f' .first (sym (s .same) ∙ g), one-more, append-assoc, drop-drop);
       }
 
 -- ---- the ways out
@@ -65,14 +66,14 @@ module _ (text row : List ℕ) (at count : ℕ) (s : SoFar text row at count) wh
   too-many more full =
       let left : 0 < length (numbers (drop at text)) = some-number (drop at text) (omega (arith, length-drop at text)) in
       let sixteen : length (take count row) ≡ count = length-take-le count row (omega (arith, s)) in
-      record
-      { few = λ h. absurd (omega arith)
-      ; many =
-          λ h.
-          and-fails
-          (good text)
-          (leb (length (numbers text)) 16)
-          (λ g. lt-leb (length (numbers text)) 16 (omega (arith, simp length-append at (ap length (s .first g)))))
+      record {
+        few = λ h. absurd (omega arith);
+        many =
+            λ h.
+            and-fails
+            (good text)
+            (leb (length (numbers text)) 16)
+            (λ g. lt-leb (length (numbers text)) 16 (omega (arith, simp length-append at (ap length (s .first g)))));
       }
 
   pub one-bad : good (take (length text - at) (drop at text)) ≡ false → Row text row 17

@@ -1,7 +1,7 @@
 -- What a typed line means. "Lines of at most 80 bytes (newline apart), decimals (leading zeros allowed) parted by single spaces."
 -- Assumes nothing.
 use Prim.Native.Nat.{ℕ, _+_, _-_, _*_}
-use mathlib.Core.Bool.{Bool, true, false, cond, not, _&&_}
+use mathlib.Core.Bool.{Bool, true, cond, not, _&&_}
 use mathlib.Core.List.{List, [], _∷_, map}
 use lib.ListN.{length, getD, take}
 use lib.Dec.{eqb, leb}

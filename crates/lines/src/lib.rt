@@ -20,7 +20,7 @@ pub enum Order {
 }
 
 // A number, and how many bytes were read for it.
-pub enum Number {
+enum Number {
     Value(u32, usize),
     Bad,
 }

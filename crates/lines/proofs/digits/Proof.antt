@@ -1,15 +1,15 @@
-use Prim.Native.Nat.{_-_, _≤_, min}
+-- `lines::digits` meets its contract: what has been passed is digits, and the loop is left at the first byte that is none.
+-- Assumes nothing.
+use Prim.Native.Nat.{_-_, _≤_}
 use mathlib.Core.Path.{_≡_}
 use mathlib.Core.Bool.{true}
 use native.Mathlib.Omega.{arith}
 use lib.ListN.{length, take}
+use borrow.Author.Needs.{needs}
 use Rattle.lines.specs.Line.{all-digits}
 use Rattle.lines.proofs.FieldLaws.{digits-more, low-is-none, high-is-none}
-use borrow.Author.Needs.{needs}
 use Rattle.lines.proofs.digits.Statement.{statement}
 use Rattle.lines.proofs.digits.Tie as tie
-use Rattle.lines.proofs.digits.Reads as reads
-use Rattle.lines.proofs.digits.Lts as lts
 
 abbrev Inv-loop : tie.InvT-loop
 Inv-loop text at₀ at = (at ≤ length text) × (all-digits (take at text) ≡ true)
@@ -17,44 +17,35 @@ Inv-loop text at₀ at = (at ≤ length text) × (all-digits (take at text) ≡ 
 abbrev μ-loop : tie.MeasureT-loop
 μ-loop text at₀ at = length text - at
 
--- src/lib.rt:33:5
 loop-holds : tie.Need-loop-holds Inv-loop μ-loop
 unfolding all-digits
 loop-holds c = search needs
 
--- src/lib.rt:34:12
 shared-slice-read-if1 : tie.Need-shared-slice-read-if1 Inv-loop μ-loop
 shared-slice-read-if1 c = search needs
 
--- src/lib.rt:35:13
 returns : tie.Need-returns Inv-loop μ-loop
 returns c =
     record { within = search needs; digits = c .before .before .before .loop .inv .1; no-more = λ h. low-is-none _ (c .if1 .taken) }
 
--- src/lib.rt:37:17
 shared-slice-read-if2 : tie.Need-shared-slice-read-if2 Inv-loop μ-loop
 shared-slice-read-if2 c = search needs
 
--- src/lib.rt:38:13
 returns-2 : tie.Need-returns-2 Inv-loop μ-loop
 returns-2 c =
     record { within = search needs; digits = c .before .before .before .before .before .loop .inv .1; no-more = λ h. high-is-none _ (c .if2 .taken) }
 
--- src/lib.rt:40:9
 add-at : tie.Need-add-at Inv-loop μ-loop
 add-at c = search needs
 
--- src/lib.rt:33:5
 loop-less : tie.Need-loop-less Inv-loop μ-loop
 loop-less c = search needs
 
--- src/lib.rt:33:5
 loop-again : tie.Need-loop-again Inv-loop μ-loop
 loop-again c =
     let at-loop = c .before .before .before .before .before in
     (search needs, digits-more (at-loop .before .args .text .now) (at-loop .loop .at) (search needs) (at-loop .loop .inv .1) (search needs) (search needs))
 
--- src/lib.rt:29:1
 returns-3 : tie.Need-returns-3 Inv-loop μ-loop
 returns-3 c = record { within = search needs; digits = c .before .loop .inv .1; no-more = λ h. absurd (omega arith) }
 

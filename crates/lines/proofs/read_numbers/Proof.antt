@@ -1,16 +1,15 @@
+-- `lines::read_numbers` meets its contract: the numbers up to the place stand in front of the row, and the rest is still to be read.
+-- Assumes nothing.
 use Prim.Native.Nat.{ℕ, _+_, _-_}
 use mathlib.Core.List.{List}
 use mathlib.Core.Path.{_≡_, subst}
-use Rattle.lines.specs.Reading.{Found, NumberIn}
 use native.Mathlib.Omega.{arith}
 use lib.ListN.{length, take, drop, set}
-use Rattle.lines.proofs.RowLaws.{SoFar, so-far-none, so-far-more, too-many, one-bad, all-read}
 use borrow.Author.Needs.{needs}
+use Rattle.lines.specs.Reading.{Found, NumberIn}
+use Rattle.lines.proofs.RowLaws.{SoFar, so-far-none, so-far-more, too-many, one-bad, all-read}
 use Rattle.lines.proofs.read_numbers.Statement.{statement}
 use Rattle.lines.proofs.read_numbers.Tie as tie
-use Rattle.lines.proofs.read_numbers.Reads as reads
-use Rattle.lines.proofs.read_numbers.Lts as lts
-use Rattle.lines.proofs.read_number.Reads as read-number-reads
 
 abbrev Inv-loop : tie.InvT-loop
 Inv-loop text row₀ at₀ count₀ row at count = (length row ≡ length row₀) × SoFar text row at count
@@ -18,65 +17,57 @@ Inv-loop text row₀ at₀ count₀ row at count = (length row ≡ length row₀
 abbrev μ-loop : tie.MeasureT-loop
 μ-loop text row₀ at₀ count₀ row at count = length text - at
 
--- src/lib.rt:94:5
 loop-holds : tie.Need-loop-holds Inv-loop μ-loop
 loop-holds c = (search needs, so-far-none (c .before .before .args .text .now) (c .before .before .args .row .now) (c .before .before .pre))
 
--- src/lib.rt:96:13
 same-length : tie.Need-same-length Inv-loop μ-loop
 same-length c = search needs
 
--- src/lib.rt:96:13
 returns : tie.Need-returns Inv-loop μ-loop
 returns c =
     let at-loop = c .before .before in
     let start = at-loop .before .before .before in
     too-many (start .args .text .now) (at-loop .loop .row) (at-loop .loop .at) (at-loop .loop .count) (at-loop .loop .inv .1) (search needs) (c .if1 .taken)
 
--- src/lib.rt:98:27
 sub-read-number : tie.Need-sub-read-number Inv-loop μ-loop
 sub-read-number c = search needs
 
--- src/lib.rt:98:27
 part-read-number-start : tie.Need-part-read-number-start Inv-loop μ-loop
 part-read-number-start c = search needs
 
--- src/lib.rt:98:27
 part-read-number-end : tie.Need-part-read-number-end Inv-loop μ-loop
 part-read-number-end c = search needs
 
--- src/lib.rt:98:15
 read-number-requires : tie.Need-read-number-requires Inv-loop μ-loop
 read-number-requires c κs = search needs
 
--- src/lib.rt:100:17
 enum-told : tie.Need-enum-told Inv-loop μ-loop
 enum-told c = search needs
 
--- src/lib.rt:100:17
 same-length-2 : tie.Need-same-length-2 Inv-loop μ-loop
 same-length-2 c = search needs
 
--- src/lib.rt:100:17
 returns-2 : tie.Need-returns-2 Inv-loop μ-loop
 returns-2 c =
     let at-loop = c .before .before .before .before .before .before in
     let start = at-loop .before .before .before in
-    one-bad (start .args .text .now) (at-loop .loop .row) (at-loop .loop .at) (at-loop .loop .count) (at-loop .loop .inv .1) (subst (NumberIn _) (c .enum-told .given .1) (c .before .before .read-number .ensures))
+    one-bad
+    (start .args .text .now)
+    (at-loop .loop .row)
+    (at-loop .loop .at)
+    (at-loop .loop .count)
+    (at-loop .loop .inv .1)
+    (subst (NumberIn _) (c .enum-told .given .1) (c .before .before .read-number .ensures))
 
--- src/lib.rt:102:27
 enum-known-v : tie.Need-enum-known-v Inv-loop μ-loop
 enum-known-v c = search needs
 
--- src/lib.rt:103:17
 mul-row : tie.Need-mul-row Inv-loop μ-loop
 mul-row c = search needs
 
--- src/lib.rt:103:17
 slice-write-row : tie.Need-slice-write-row Inv-loop μ-loop
 slice-write-row c = search needs
 
--- src/lib.rt:104:17
 add-count : tie.Need-add-count Inv-loop μ-loop
 add-count c = search needs
 
@@ -118,23 +109,18 @@ next c =
     (found c)
     (c .before .before .before .before .before .if1 .left)
 
--- src/lib.rt:105:17
 add-at : tie.Need-add-at Inv-loop μ-loop
 add-at c = omega (arith, next c .within)
 
--- src/lib.rt:94:5
 loop-less : tie.Need-loop-less Inv-loop μ-loop
 loop-less c = omega (arith, next c .within, found c .forward)
 
--- src/lib.rt:94:5
 loop-again : tie.Need-loop-again Inv-loop μ-loop
 loop-again c = (search needs, next c)
 
--- src/lib.rt:88:1
 same-length-3 : tie.Need-same-length-3 Inv-loop μ-loop
 same-length-3 c = search needs
 
--- src/lib.rt:88:1
 returns-3 : tie.Need-returns-3 Inv-loop μ-loop
 returns-3 c =
     let at-loop = c .before in

@@ -1,17 +1,16 @@
+-- `lines::value` meets its contract: the number is the value of the digits passed, cut off at 2^32.
+-- Assumes nothing.
 use Prim.Native.Nat.{ℕ, _-_, _≤_, min}
 use mathlib.Core.Path.{_≡_, ap, _∙_}
 use mathlib.Core.List.{List}
-use lib.Seq.{take-all}
 use native.Mathlib.Omega.{arith}
+use lib.Seq.{take-all}
 use lib.ListN.{length, take}
+use borrow.Author.Needs.{needs}
 use Rattle.lines.specs.Line.{value, value-after}
 use Rattle.lines.proofs.FieldLaws.{digit-at, value-more}
-use borrow.Author.Needs.{needs}
 use Rattle.lines.proofs.value.Statement.{statement}
 use Rattle.lines.proofs.value.Tie as tie
-use Rattle.lines.proofs.value.Reads as reads
-use Rattle.lines.proofs.value.Lts as lts
-use Rattle.lines.proofs.more.Reads as more-reads
 
 abbrev Inv-loop : tie.InvT-loop
 Inv-loop digits v₀ at₀ v at = (at ≤ length digits) × (v ≡ min (value (take at digits)) 4294967296)
@@ -19,34 +18,29 @@ Inv-loop digits v₀ at₀ v at = (at ≤ length digits) × (v ≡ min (value (t
 abbrev μ-loop : tie.MeasureT-loop
 μ-loop digits v₀ at₀ v at = length digits - at
 
--- src/lib.rt:61:5
 loop-holds : tie.Need-loop-holds Inv-loop μ-loop
 unfolding value-after
 loop-holds c = search needs
 
--- src/lib.rt:62:21
 shared-slice-read-more : tie.Need-shared-slice-read-more Inv-loop μ-loop
 shared-slice-read-more c = search needs
 
--- src/lib.rt:62:9
 more-requires : tie.Need-more-requires Inv-loop μ-loop
-more-requires c κs = (omega (arith, c .before .before .loop .inv .1), digit-at (c .before .before .before .before .args .digits .now) (c .before .before .loop .at) (c .before .before .before .before .pre) (search needs))
+more-requires c κs =
+    let start = c .before .before .before .before in
+    (omega (arith, c .before .before .loop .inv .1), digit-at (start .args .digits .now) (c .before .before .loop .at) (start .pre) (search needs))
 
--- src/lib.rt:63:9
 add-at : tie.Need-add-at Inv-loop μ-loop
 add-at c = search needs
 
--- src/lib.rt:61:5
 loop-less : tie.Need-loop-less Inv-loop μ-loop
 loop-less c = search needs
 
--- src/lib.rt:61:5
 loop-again : tie.Need-loop-again Inv-loop μ-loop
 loop-again c =
     let at-loop = c .before .before .before in
     (search needs, c .more .ensures ∙ value-more (at-loop .before .before .args .digits .now) (at-loop .loop .at) (at-loop .loop .v) (search needs) (at-loop .loop .inv .1))
 
--- src/lib.rt:55:1
 returns : tie.Need-returns Inv-loop μ-loop
 returns c =
     let ds = c .before .before .before .args .digits .now in
