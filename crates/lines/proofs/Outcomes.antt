@@ -14,8 +14,8 @@ use Rattle.lines.specs.declared.Order.the-variants as order
 differ : {A : Type 0} → _≡_ {A = ℕ} 0 1 → A
 differ e = absurd (omega arith)
 
-module _ (row row' : List ℕ) (long : length row ≡ 16) (long' : length row' ≡ 16) where
-  pub same-order : (r s : Order) → roots-of r ≤ 16 → roots-of s ≤ 16 → order-meaning r row ≡ order-meaning s row'
+module _ (row row' : List ℕ) where
+  pub same-order : (r s : Order) → roots-of r ≤ length row → roots-of s ≤ length row' → order-meaning r row ≡ order-meaning s row'
       → (r ≡ s) × (take (roots-of r) row ≡ take (roots-of s) row')
   same-order (order.Allocate a b c) (order.Allocate a' b' c') h h' e = (cc, refl)
   same-order (order.Allocate a b c) (order.Link a' b' c') h h' e = differ (cc)
@@ -29,7 +29,7 @@ module _ (row row' : List ℕ) (long : length row ≡ 16) (long' : length row' �
   same-order (order.Collect n) (order.Link a' b' c') h h' e = differ (cc)
   same-order (order.Collect n) (order.Collect n') h h' e =
       let roots : take n row ≡ take n' row' = cc in
-      let as-many : n ≡ n' = omega (arith, ap length roots, length-take-le n row (omega arith), length-take-le n' row' (omega arith)) in
+      let as-many : n ≡ n' = omega (arith, ap length roots, length-take-le n row h, length-take-le n' row' h') in
       (ap (λ (k : ℕ). order.Collect k) as-many, roots)
   same-order (order.Collect n) order.Bad h h' e = differ (cc)
   same-order order.Bad (order.Allocate a' b' c') h h' e = differ (cc)

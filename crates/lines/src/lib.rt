@@ -114,7 +114,7 @@ fn read_numbers(text: &[u8], row: &mut [u32]) -> usize
 fn order_of(letter: u8, row: &[u32], count: usize) -> Order
     requires { ⌜ (count ≤ 16) × (length (now row) ≡ 16) ⌝ }
     ensures means { λ r. ⌜ order-meaning r (now (row .entry)) ≡ said letter (take count (now (row .entry))) ⌝ }
-    ensures few { λ r. ⌜ roots-of r ≤ 16 ⌝ }
+    ensures within { λ r. ⌜ roots-of r ≤ length (now (row .entry)) ⌝ }
 {
     if letter == 75 {
         return Order::Collect(count);
@@ -140,7 +140,7 @@ fn order_of(letter: u8, row: &[u32], count: usize) -> Order
 // Reads a line. Where it collects, the row holds the roots.
 pub fn read_line(text: &[u8], row: &mut [u32; 16]) -> Order
     ensures means { λ r. ⌜ order-meaning r (now (row .exit)) ≡ meaning (now (text .entry)) ⌝ }
-    ensures few { λ r. ⌜ roots-of r ≤ 16 ⌝ }
+    ensures within { λ r. ⌜ roots-of r ≤ length (now (row .exit)) ⌝ }
 {
     if text.len() == 0 {
         return Order::Bad;
