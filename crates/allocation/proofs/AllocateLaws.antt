@@ -1,14 +1,13 @@
 -- What is found and given is what document 01 promises of allocate behind refusals 2 and 3.
 -- Assumes nothing.
 use Prim.Native.Nat.{ℕ, _<_}
-use mathlib.Core.Path.{_≡_, refl, sym, ap, ap₂, _∙_, subst}
+use mathlib.Core.Path.{_≡_, sym, ap, ap₂, _∙_, subst}
 use mathlib.Core.Bool.{true, false, _||_}
-use mathlib.Core.List.{List, [], _∷_}
+use mathlib.Core.List.{List}
 use native.Mathlib.Omega.{arith}
 use borrow.Author.Tests.{le-ltb}
-use Rattle.model.specs.Class.{is-class, blocks, class-of}
+use Rattle.model.specs.Class.{is-class, class-of}
 use Rattle.model.specs.Layout.{handle}
-use Rattle.model.specs.View.{segments}
 use Rattle.model.specs.Calls.{class-has-untaken, has-pool, given-segment, given-index, allocated, allocate-refusal, Allocate}
 use Rattle.model.specs.declared.Shape.{Shape}
 use Rattle.model.specs.declared.Handle.{Handle}

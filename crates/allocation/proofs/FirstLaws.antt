@@ -1,22 +1,22 @@
 -- The first untaken block of a class of a sound arena: none before the place, in the place's own segment the first free one at or after its
 -- index, and in the segment behind it the first free one, which there is.
 -- Assumes nothing.
-use Prim.Native.Nat.{ℕ, _+_, _-_, _≤_, _<_, zero-le}
-use mathlib.Core.Path.{_≡_, refl, sym, ap, ap₂, _∙_}
-use mathlib.Core.Bool.{Bool, true, false, not, cond, _||_}
+use Prim.Native.Nat.{ℕ, _-_, _≤_, _<_, zero-le}
+use mathlib.Core.Path.{_≡_, sym, ap, _∙_}
+use mathlib.Core.Bool.{Bool, true, false, not, _||_}
 use mathlib.Core.List.{List}
 use native.Mathlib.Nat.{sub-zero}
 use native.Mathlib.Omega.{arith}
 use native.Mathlib.Decide.{decLt}
-use lib.Dec.{eqb, ltb}
-use borrow.Author.Tests.{lt-ltb, le-ltb, ltb-true}
+use lib.Dec.{ltb}
+use borrow.Author.Tests.{lt-ltb, le-ltb}
 use Rattle.model.specs.Below.{count-below, first-from, first-below}
 use Rattle.model.specs.Class.{is-class, blocks}
-use Rattle.model.specs.View.{segments, place-rank, place-index, class, rank, count, bit-of, members, ranked}
+use Rattle.model.specs.View.{segments, place-rank, place-index, class, rank, bit-of, members, ranked}
 use Rattle.model.specs.Standing.{taken-at}
-use Rattle.model.specs.Calls.{first-untaken, has-untaken, first-rank, class-has-untaken, first-pool, has-pool, given-segment, given-rank, given-index}
-use Rattle.laws.proofs.Below.{First, first-is, first-unique, first-ext, count-below-fails}
-use Rattle.soundness.proofs.Tests.{or-left, never}
+use Rattle.model.specs.Calls.{first-untaken, has-untaken, first-rank, class-has-untaken, given-segment, given-rank, given-index}
+use Rattle.laws.proofs.Below.{First, first-is, first-unique, count-below-fails}
+use Rattle.soundness.proofs.Tests.{or-left}
 use Rattle.soundness.proofs.Facts.{Member, Block, Sound}
 use Rattle.soundness.proofs.Ranks.{first-found, ranked-class, ranked-rank, ranked-member}
 use Rattle.soundness.proofs.Taken.{taken-earlier, taken-at-place, taken-behind}
@@ -83,8 +83,8 @@ module _ (ws : List ℕ) (sound : Sound ws) (i : ℕ) (c : is-class i ≡ true) 
       let e : class ws s ≡ i = ranked-class ws sound i q c l in
       let before : rank ws s < place-rank ws (class ws s) = omega (arith, ranked-rank ws sound i q c l, ap (place-rank ws) e) in
       let none : first-below (blocks (class ws s)) (λ k. not (taken-at ws s k)) ≡ blocks (class ws s) =
-          none-below (blocks (class ws s)) (λ k. not (taken-at ws s k))
-          (λ k v. ap not (taken-earlier ws s k (block-ranked q k l (omega (arith, ap blocks e))) before)) in
+      none-below (blocks (class ws s)) (λ k. not (taken-at ws s k))
+      (λ k v. ap not (taken-earlier ws s k (block-ranked q k l (omega (arith, ap blocks e))) before)) in
       le-ltb (first-below (blocks (class ws s)) (λ k. not (taken-at ws s k))) (blocks (class ws s)) (omega arith)
 
   -- in the place's own segment the first untaken block is the first free one at or after the place's index
@@ -98,7 +98,7 @@ module _ (ws : List ℕ) (sound : Sound ws) (i : ℕ) (c : is-class i ≡ true) 
       let e : class ws s ≡ i = ranked-class ws sound i q c l in
       let here : rank ws s ≡ place-rank ws (class ws s) = ranked-rank ws sound i q c l ∙ ap (place-rank ws) (sym e) in
       let is : (k : ℕ) → k < blocks i → taken-at ws s k ≡ (ltb k (place-index ws i) || bit-of ws s k) =
-          λ k u. taken-at-place ws s k (block-ranked q k l u) here ∙ ap (λ (j : ℕ). ltb k (place-index ws j) || bit-of ws s k) e in
+      λ k u. taken-at-place ws s k (block-ranked q k l u) here ∙ ap (λ (j : ℕ). ltb k (place-index ws j) || bit-of ws s k) e in
       ap (λ (j : ℕ). first-below (blocks j) (λ k. not (taken-at ws s k))) e
       ∙ first-after (blocks i) (place-index ws i) (λ k. not (taken-at ws s k)) (λ k. not (bit-of ws s k)) (sound .placed i c .index)
       (λ k u. ap not (is k (omega (arith, sound .placed i c .index)) ∙ or-left (ltb k (place-index ws i)) (bit-of ws s k) (lt-ltb k (place-index ws i) u)))
@@ -123,7 +123,7 @@ module _ (ws : List ℕ) (sound : Sound ws) (i : ℕ) (c : is-class i ≡ true) 
       let e : class ws s ≡ i = ranked-class ws sound i q c l in
       let behind : place-rank ws (class ws s) < rank ws s = omega (arith, ranked-rank ws sound i q c l, ap (place-rank ws) e) in
       let few : count-below (blocks i) (bit-of ws s) < blocks i =
-          omega (arith, sound .not-full-behind s m behind, sound .counted s m, ap blocks e, ap (λ (j : ℕ). count-below (blocks j) (bit-of ws s)) e) in
+      omega (arith, sound .not-full-behind s m behind, sound .counted s m, ap blocks e, ap (λ (j : ℕ). count-below (blocks j) (bit-of ws s)) e) in
       omega (arith, first-behind q l u, some-clear (blocks i) (bit-of ws s) few)
 
   -- ---- the first rank with an untaken block

@@ -1,8 +1,8 @@
 // Allocate, once the arena is known to be sound and the shape to be one.
 ghost use Rattle.model.specs.Calls.{Allocate};
 ghost use Rattle.allocation.specs.Gifts.{Allowed};
-use crate::find::find;
 use crate::find::Found;
+use crate::find::find;
 use crate::give::give;
 use crate::give::give_joining;
 use model::Allocated;

@@ -1,13 +1,13 @@
 // The block to give.
 ghost use Rattle.model.specs.View.{place-rank, place-index};
 ghost use Rattle.allocation.specs.Spots.{Search, FreeAt, Free, AtPlace, Joining, Finds};
+use crate::pool::first_pool;
+use crate::segments::members;
+use crate::segments::ranked;
 use arena::place_of;
 use arena::record_of;
 use arena::segments;
 use bitmap::search::first_free;
-use crate::segments::first_pool;
-use crate::segments::members;
-use crate::segments::ranked;
 use model::BlockIndex;
 use words::class::blocks;
 use words::fields::place_index;
@@ -47,7 +47,12 @@ fn at_place(arena: &[u32], class: u32) -> Spot
     ensures { λ r. ⌜ Free (now (arena .entry)) class (place-rank (now (arena .entry)) class) (place-index (now (arena .entry)) class) r ⌝ }
 {
     let place = place_of(arena, class);
-    free_at(arena, class, place_rank(place), BlockIndex(place_index(place)))
+    free_at(
+        arena,
+        class,
+        place_rank(place),
+        BlockIndex(place_index(place)),
+    )
 }
 
 // Where a class has no untaken block: block 0 of the lowest-numbered pool segment, at the next rank.

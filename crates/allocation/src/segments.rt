@@ -1,9 +1,7 @@
-// Segments by their class and rank: how many a class has, the one of a rank, and the lowest-numbered of the pool.
+// The segments of a class: how many there are, and the one of a rank.
 ghost use mathlib.Core.Path.{_≡_};
 ghost use Rattle.model.specs.Below.{one-if};
 ghost use Rattle.model.specs.View.{members, ranked};
-ghost use Rattle.model.specs.Standing.{in-pool};
-ghost use Rattle.model.specs.Calls.{first-pool};
 ghost use Rattle.arena.specs.Inside.{Segment};
 ghost use Rattle.allocation.specs.Spots.{Whole, is-member, has-rank};
 use arena::class as class_of;
@@ -50,27 +48,6 @@ pub fn ranked(arena: &[u32], class: u32, rank: u32) -> u32
     let n = segments(arena);
     for s in 0..n {
         if has_rank(arena, s, class, rank) {
-            return s;
-        }
-    }
-    n
-}
-
-fn in_pool(arena: &[u32], segment: u32) -> bool
-    requires { ⌜ Segment (now arena) segment ⌝ }
-    ensures { λ r. ⌜ r ≡ in-pool (now (arena .entry)) segment ⌝ }
-{
-    class_of(arena, segment) == 0
-}
-
-// The lowest-numbered pool segment, and the number of segments where there is none.
-pub fn first_pool(arena: &[u32]) -> u32
-    requires { ⌜ Whole (now arena) ⌝ }
-    ensures { λ r. ⌜ r ≡ first-pool (now (arena .entry)) ⌝ }
-{
-    let n = segments(arena);
-    for s in 0..n {
-        if in_pool(arena, s) {
             return s;
         }
     }

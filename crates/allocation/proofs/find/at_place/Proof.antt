@@ -1,3 +1,4 @@
+-- `allocation::find::at_place` meets its contract: the place of a class with segments lies in one of them. Assumes nothing.
 use mathlib.Core.Path.{ap, _∙_}
 use native.Mathlib.Omega.{arith}
 use Rattle.model.specs.Word.{field}
@@ -6,15 +7,9 @@ use Rattle.allocation.proofs.FindLaws.{whole, place-ranked, place-insid
 use borrow.Author.Needs.{needs}
 use Rattle.allocation.proofs.find.at_place.Statement.{statement}
 use Rattle.allocation.proofs.find.at_place.Tie as tie
-use Rattle.allocation.proofs.find.at_place.Reads as reads
-use Rattle.allocation.proofs.find.at_place.Lts as lts
-use Rattle.allocation.proofs.find.free_at.Reads as free-at-reads
-use Rattle.arena.proofs.place_of.Reads as place-of-reads
-use Rattle.words.proofs.fields.place_index.Reads as place-index-reads
-use Rattle.words.proofs.fields.place_rank.Reads as place-rank-reads
 
 place-of-requires : tie.Need-place-of-requires
-place-of-requires c κs = 
+place-of-requires c κs =
     let a = c .before .args in
     let h = c .before .pre in
     omega (arith, whole (a .arena .now) (h .is-sound), class-bounds (a .class) (h .class))
@@ -26,7 +21,7 @@ place-index-requires : tie.Need-place-index-requires
 place-index-requires c κs = search needs
 
 free-at-requires : tie.Need-free-at-requires
-free-at-requires c κs = 
+free-at-requires c κs =
     let a = c .before .before .before .before .args in
     let h = c .before .before .before .before .pre in
     record {
@@ -37,7 +32,7 @@ free-at-requires c κs =
     }
 
 returns : tie.Need-returns
-returns c = 
+returns c =
     let w = c .before .before .before .place-of .ensures in
     free-same (c .before .before .place-rank .ensures ∙ ap (field 0 8) w) (c .before .place-index .ensures ∙ ap (field 8 12) w) (c .free-at .ensures)
 

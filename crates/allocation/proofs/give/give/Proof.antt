@@ -1,11 +1,8 @@
+-- `allocation::give::give` meets its contract: no segment joins, so the words are those that document 01 says. Assumes nothing.
 use Rattle.allocation.proofs.GiveLaws.{has-head, here-take, here-is}
 use borrow.Author.Needs.{needs}
 use Rattle.allocation.proofs.give.give.Statement.{statement}
 use Rattle.allocation.proofs.give.give.Tie as tie
-use Rattle.allocation.proofs.give.give.Reads as reads
-use Rattle.allocation.proofs.give.give.Lts as lts
-use Rattle.allocation.proofs.give.take.Reads as take-reads
-use Rattle.arena.proofs.segments.Reads as segments-reads
 
 segments-requires : tie.Need-segments-requires
 segments-requires c κs = has-head (c .before .before .args .arena .now) (c .before .before .pre .is-sound)

@@ -1,12 +1,8 @@
+-- `allocation::give::give_joining` meets its contract: with the segment that joins, the words are those that document 01 says. Assumes nothing.
 use Rattle.allocation.proofs.GiveLaws.{has-head, joining-join, joining-take, joining-is}
 use borrow.Author.Needs.{needs}
 use Rattle.allocation.proofs.give.give_joining.Statement.{statement}
 use Rattle.allocation.proofs.give.give_joining.Tie as tie
-use Rattle.allocation.proofs.give.give_joining.Reads as reads
-use Rattle.allocation.proofs.give.give_joining.Lts as lts
-use Rattle.allocation.proofs.give.join.Reads as join-reads
-use Rattle.allocation.proofs.give.take.Reads as take-reads
-use Rattle.arena.proofs.segments.Reads as segments-reads
 
 segments-requires : tie.Need-segments-requires
 segments-requires c κs = has-head (c .before .before .args .arena .now) (c .before .before .pre .is-sound)

@@ -1,3 +1,4 @@
+-- `allocation::give::join` meets its contract: what the record's part becomes is the fresh record. Assumes nothing.
 use Prim.Native.Nat.{_+_, _*_, _-_}
 use mathlib.Core.Path.{_≡_, _∙_}
 use mathlib.Core.Bool.{false}
@@ -8,10 +9,6 @@ use Rattle.allocation.proofs.GiveLaws.{put-lent}
 use borrow.Author.Needs.{needs}
 use Rattle.allocation.proofs.give.join.Statement.{statement}
 use Rattle.allocation.proofs.give.join.Tie as tie
-use Rattle.allocation.proofs.give.join.Reads as reads
-use Rattle.allocation.proofs.give.join.Lts as lts
-use Rattle.bitmap.proofs.fresh.fresh.Reads as fresh-reads
-use Rattle.words.proofs.slices.wide.Reads as wide-reads
 
 wide-requires : tie.Need-wide-requires
 wide-requires c κs = search needs

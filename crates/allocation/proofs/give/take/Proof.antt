@@ -1,13 +1,9 @@
-use mathlib.Core.Path.{_≡_, ap, _∙_}
+-- `allocation::give::take` meets its contract: the block, and then the place. Assumes nothing.
 use native.Mathlib.Omega.{arith}
 use Rattle.allocation.proofs.GiveLaws.{index-fits, taken-is}
 use borrow.Author.Needs.{needs}
 use Rattle.allocation.proofs.give.take.Statement.{statement}
 use Rattle.allocation.proofs.give.take.Tie as tie
-use Rattle.allocation.proofs.give.take.Reads as reads
-use Rattle.allocation.proofs.give.take.Lts as lts
-use Rattle.allocation.proofs.give.put_block.Reads as put-block-reads
-use Rattle.allocation.proofs.give.put_place.Reads as put-place-reads
 
 put-block-requires : tie.Need-put-block-requires
 put-block-requires c κs = search needs

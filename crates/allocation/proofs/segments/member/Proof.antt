@@ -1,14 +1,10 @@
-use mathlib.Core.Path.{_≡_, refl, sym, ap, _∙_}
-use mathlib.Core.Bool.{Bool, _&&_}
-use lib.Dec.{eqb}
+-- `allocation::segments::member` meets its contract. Assumes nothing.
+use mathlib.Core.Path.{sym, ap, _∙_}
 use borrow.Author.Tests.{eq-eqb, ne-eqb}
 use Rattle.model.specs.Below.{one-if}
 use borrow.Author.Needs.{needs}
 use Rattle.allocation.proofs.segments.member.Statement.{statement}
 use Rattle.allocation.proofs.segments.member.Tie as tie
-use Rattle.allocation.proofs.segments.member.Reads as reads
-use Rattle.allocation.proofs.segments.member.Lts as lts
-use Rattle.arena.proofs.class.Reads as class-reads
 
 class-requires : tie.Need-class-requires
 class-requires c κs = search needs

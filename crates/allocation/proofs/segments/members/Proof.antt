@@ -1,18 +1,12 @@
+-- `allocation::segments::members` meets its contract: of the segments passed, so many are of the class. Assumes nothing.
 use borrow.Author.Needs.{needs}
 use Prim.Native.Nat.{_-_}
-use mathlib.Core.Path.{_≡_, refl, sym, ap, _∙_}
 use native.Mathlib.Omega.{arith}
-use Rattle.model.specs.View.{segments, members, ranked}
-use Rattle.model.specs.Standing.{in-pool}
-use Rattle.model.specs.Calls.{first-pool}
-use Rattle.allocation.specs.Spots.{is-member, has-rank}
-use Rattle.allocation.proofs.LoopLaws.{Failed, none-yet, one-more, one-passes, none-passes, Counted, count-none, count-more, count-all}
+use Rattle.model.specs.View.{segments, members}
+use Rattle.allocation.specs.Spots.{is-member}
+use Rattle.allocation.proofs.LoopLaws.{Counted, count-none, count-more, count-all}
 use Rattle.allocation.proofs.segments.members.Statement.{statement}
 use Rattle.allocation.proofs.segments.members.Tie as tie
-use Rattle.allocation.proofs.segments.members.Reads as reads
-use Rattle.allocation.proofs.segments.members.Lts as lts
-use Rattle.allocation.proofs.segments.member.Reads as member-reads
-use Rattle.arena.proofs.segments.Reads as segments-reads
 
 abbrev Inv-loop : tie.InvT-loop
 Inv-loop arena class n m₀ s₀ m s = Counted (segments arena) (is-member arena class) s m
