@@ -9,17 +9,21 @@ segments-requires c κs = has-head (c .before .before .args .arena .now) (c .bef
 
 take-requires : tie.Need-take-requires
 take-requires c κs =
-    let a = c .before .before .before .before .args in
-    here-take (a .arena .now) (a .class) (a .spot) (a .shape) (c .before .segments .result) (c .before .segments .ensures) (c .before .before .before .before .pre)
+    let counted = c .before .segments in
+    let start = c .before .before .before .before in
+    let a = start .args in
+    here-take (a .arena .now) (a .class) (a .spot) (a .shape) (counted .result) (counted .ensures) (start .pre)
 
 same-length : tie.Need-same-length
 same-length c = search needs
 
 returns : tie.Need-returns
 returns c =
-    let a = c .before .before .before .before .before .before .before .args in
-    here-is (a .arena .now) (a .class) (a .spot) (a .shape) (c .before .before .before .before .segments .result) (c .before .before .before .before .segments .ensures) (c .before .before .before .before .before .before .before .pre)
-    (c .before .before .take .last .0) (c .before .before .take .ensures)
+    let taken = c .before .before .take in
+    let counted = c .before .before .before .before .segments in
+    let start = c .before .before .before .before .before .before .before in
+    let a = start .args in
+    here-is (a .arena .now) (a .class) (a .spot) (a .shape) (counted .result) (counted .ensures) (start .pre) (taken .last .0) (taken .ensures)
 
 pub give-spec : {M : Type 1} → statement M
 give-spec = tie.close (tie.spec segments-requires take-requires same-length returns)

@@ -9,22 +9,31 @@ segments-requires c κs = has-head (c .before .before .args .arena .now) (c .bef
 
 join-requires : tie.Need-join-requires
 join-requires c κs =
-    let a = c .before .before .before .before .args in
-    joining-join (a .arena .now) (a .class) (a .spot) (a .shape) (c .before .segments .result) (c .before .segments .ensures) (c .before .before .before .before .pre)
+    let counted = c .before .segments in
+    let start = c .before .before .before .before in
+    let a = start .args in
+    joining-join (a .arena .now) (a .class) (a .spot) (a .shape) (counted .result) (counted .ensures) (start .pre)
 
 take-requires : tie.Need-take-requires
 take-requires c κs =
-    let a = c .before .before .before .before .before .before .before .before .args in
-    joining-take (a .arena .now) (a .class) (a .spot) (a .shape) (c .before .before .before .before .before .segments .result) (c .before .before .before .before .before .segments .ensures) (c .before .before .before .before .before .before .before .before .pre) (c .before .before .before .join .last .0) (c .before .before .before .join .ensures)
+    let joined = c .before .before .before .join in
+    let counted = c .before .before .before .before .before .segments in
+    let start = c .before .before .before .before .before .before .before .before in
+    let a = start .args in
+    joining-take (a .arena .now) (a .class) (a .spot) (a .shape) (counted .result) (counted .ensures) (start .pre) (joined .last .0) (joined .ensures)
 
 same-length : tie.Need-same-length
 same-length c = search needs
 
 returns : tie.Need-returns
 returns c =
-    let a = c .before .before .before .before .before .before .before .before .before .before .before .args in
-    joining-is (a .arena .now) (a .class) (a .spot) (a .shape) (c .before .before .before .before .before .before .before .before .segments .result) (c .before .before .before .before .before .before .before .before .segments .ensures) (c .before .before .before .before .before .before .before .before .before .before .before .pre)
-    (c .before .before .before .before .before .before .join .last .0) (c .before .before .before .before .before .before .join .ensures) (c .before .before .take .last .0) (c .before .before .take .ensures)
+    let taken = c .before .before .take in
+    let joined = c .before .before .before .before .before .before .join in
+    let counted = c .before .before .before .before .before .before .before .before .segments in
+    let start = c .before .before .before .before .before .before .before .before .before .before .before in
+    let a = start .args in
+    joining-is (a .arena .now) (a .class) (a .spot) (a .shape) (counted .result) (counted .ensures) (start .pre) (joined .last .0) (joined .ensures)
+    (taken .last .0) (taken .ensures)
 
 pub give-joining-spec : {M : Type 1} → statement M
 give-joining-spec =

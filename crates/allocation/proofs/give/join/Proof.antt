@@ -42,11 +42,13 @@ same-length c = search needs
 
 returns : tie.Need-returns
 returns c =
+    let written = c .before .before .fresh in
+    let w = c .before .before .before .before .wide in
     let a = c .before .before .before .before .before .before .args in
-    let w = c .before .before .before .before .wide .result in
-    let at : 11 + 68 * w ≡ 11 + 68 * a .segment = omega (arith, c .before .before .before .before .wide .ensures) in
-    let size : 68 ≡ 11 + 68 * w + 68 - (11 + 68 * w) = omega arith in
-    put-lent (a .arena .now) (c .before .before .fresh .last .0) _ _ _ _ at (c .before .before .fresh .ensures) (record-length (record-head (a .class) (a .rank) 0) (a .class) (λ k. false) ∙ size)
+    let at : 11 + 68 * w .result ≡ 11 + 68 * a .segment = omega (arith, w .ensures) in
+    let size : 68 ≡ 11 + 68 * w .result + 68 - (11 + 68 * w .result) = omega arith in
+    put-lent (a .arena .now) (written .last .0) _ _ _ _ at (written .ensures)
+    (record-length (record-head (a .class) (a .rank) 0) (a .class) (λ k. false) ∙ size)
 
 pub join-spec : {M : Type 1} → statement M
 join-spec =
