@@ -20,6 +20,7 @@ use Rattle.soundness.proofs.Tests.Order.{is-below, is-same, is-above}
 use Rattle.soundness.proofs.Facts.{Sound, sound-facts, record-length}
 use Rattle.soundness.proofs.Ranks.{ranked-class, ranked-member}
 use Rattle.arena.specs.Inside.{Segment}
+use Rattle.records.specs.Judged.{Sized}
 use Rattle.bitmap.specs.Tree.{FirstFree}
 use Rattle.allocation.specs.Spots.{Whole, Search, FreeAt, Free, AtPlace, Joining, Finds}
 use Rattle.allocation.specs.declared.find.Spot.{Spot}
@@ -32,6 +33,11 @@ pub whole : (ws : List ℕ) → sound ws ≡ true → Whole ws
 whole ws t =
     let size = sound-facts ws t .size in
     record { few = size .few; long = size .long }
+
+pub members-asked : (ws : List ℕ) → sound ws ≡ true → Sized ws
+members-asked ws t =
+    let size = sound-facts ws t .size in
+    record { some = size .some; few = size .few; long = size .long }
 
 pub place-asked : (ws : List ℕ) (i m : ℕ) → Search ws i → m ≡ members ws i → m ≢ 0 → AtPlace ws i
 place-asked ws i m h e some = record { is-sound = h .is-sound; class = h .class; some = omega (arith, e, some) }

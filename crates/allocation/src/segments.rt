@@ -1,37 +1,11 @@
-// The segments of a class: how many there are, and the one of a rank.
+// The segment of a rank among those of its class.
 ghost use mathlib.Core.Path.{_≡_};
-ghost use Rattle.model.specs.Below.{one-if};
-ghost use Rattle.model.specs.View.{members, ranked};
+ghost use Rattle.model.specs.View.{ranked};
 ghost use Rattle.arena.specs.Inside.{Segment};
-ghost use Rattle.allocation.specs.Spots.{Whole, is-member, has-rank};
+ghost use Rattle.allocation.specs.Spots.{Whole, has-rank};
 use arena::class as class_of;
 use arena::rank as rank_of;
 use arena::segments;
-
-// 1 for a segment of the class, 0 for any other.
-fn member(arena: &[u32], segment: u32, class: u32) -> u32
-    requires { ⌜ Segment (now arena) segment ⌝ }
-    ensures { λ r. ⌜ r ≡ one-if (is-member (now (arena .entry)) class segment) ⌝ }
-{
-    if class_of(arena, segment) == class {
-        1
-    } else {
-        0
-    }
-}
-
-// How many segments a class has.
-pub fn members(arena: &[u32], class: u32) -> u32
-    requires { ⌜ Whole (now arena) ⌝ }
-    ensures { λ r. ⌜ r ≡ members (now (arena .entry)) class ⌝ }
-{
-    let n = segments(arena);
-    let mut m: u32 = 0;
-    for s in 0..n {
-        m += member(arena, s, class);
-    }
-    m
-}
 
 fn has_rank(arena: &[u32], segment: u32, class: u32, rank: u32) -> bool
     requires { ⌜ Segment (now arena) segment ⌝ }

@@ -2,29 +2,21 @@
 use mathlib.Core.Path.{sym, _∙_}
 use native.Mathlib.Omega.{arith}
 use Rattle.words.proofs.ClassLaws.{class-bounds}
-use Rattle.allocation.proofs.FindLaws.{whole, place-asked, joining-asked, none-unused, found-here, found-next, none-left}
+use Rattle.allocation.proofs.FindLaws.{members-asked, place-asked, joining-asked, none-unused, found-here, found-next, none-left}
 use borrow.Author.Needs.{needs}
 use Rattle.allocation.proofs.find.find.Statement.{statement}
 use Rattle.allocation.proofs.find.find.Tie as tie
 
 members-requires : tie.Need-members-requires
-members-requires c κs = whole (c .before .args .arena .now) (c .before .pre .is-sound)
+members-requires c κs = members-asked (c .before .args .arena .now) (c .before .pre .is-sound)
 
 joining-requires : tie.Need-joining-requires
 joining-requires c κs =
-<<<<<<< HEAD
     let start = c .before .before .before in
     let a = start .args in
     let m = c .before .members in
     joining-asked (a .arena .now) (a .class) (m .result) (start .pre) (m .ensures)
     (none-unused (a .arena .now) (a .class) (start .pre) (sym (m .ensures) ∙ c .if1 .taken))
-=======
-    let a = c .before .before .before .args in
-    let h = c .before .before .before .pre in
-    let m = c .before .members .ensures in
-    let size = whole (a .arena .now) (h .is-sound) in
-    record { few = size .few; long = size .long; none = none-unused (a .arena .now) (a .class) h (sym m ∙ c .if1 .taken); next = m }
->>>>>>> origin/main
 
 returns : tie.Need-returns
 returns c = search needs
@@ -69,7 +61,6 @@ returns-3 c =
 
 joining-requires-2 : tie.Need-joining-requires-2
 joining-requires-2 c κs =
-<<<<<<< HEAD
     let past = c .before .before in
     let searched = past .before .before .before in
     let here = searched .at-place in
@@ -80,17 +71,6 @@ joining-requires-2 c κs =
     joining-asked (a .arena .now) (a .class) (m .result) (start .pre) (m .ensures)
     (none-left (a .arena .now) (a .class) at (here .result) (here .ensures) (here .result .rank) (here .ensures .rank)
     (omega (arith, past .if2 .left, past .before .before .blocks2 .ensures)) (omega (arith, c .if3 .left, m .ensures)))
-=======
-    let a = c .before .before .before .before .before .before .before .before .before .args in
-    let h = c .before .before .before .before .before .before .before .before .before .pre in
-    let here = c .before .before .before .before .before .at-place in
-    let m = c .before .before .before .before .before .before .before .members .ensures in
-    let size = whole (a .arena .now) (h .is-sound) in
-    let at : AtPlace (a .arena .now) (a .class) = record { is-sound = h .is-sound; class = h .class; some = omega (arith, c .before .before .before .before .before .before .if1 .left, m) } in
-    let none = none-left (a .arena .now) (a .class) at (here .result) (here .ensures) (here .result .rank) (here .ensures .rank)
-    (omega (arith, c .before .before .if2 .left, c .before .before .before .before .blocks2 .ensures)) (omega (arith, c .if3 .left, m)) in
-    record { few = size .few; long = size .long; none = none; next = m }
->>>>>>> origin/main
 
 returns-4 : tie.Need-returns-4
 returns-4 c = search needs
