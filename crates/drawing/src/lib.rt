@@ -6,3 +6,4 @@
 // outcomes that meet a promise are equal (proofs/Unique).
 
 pub mod make;
+pub mod look;
