@@ -1,17 +1,22 @@
--- What a judged arena gives to the calls. Assumes nothing.
-use Prim.Native.Nat.{ℕ, _≤_, _<_}
-use mathlib.Core.Path.{_≡_}
-use mathlib.Core.Bool.{true}
+-- What a judged arena gives to the calls: its size, its taken blocks, and the words of each. Assumes nothing.
+use Prim.Native.Nat.{ℕ, _+_, _≤_, _<_}
+use native.Mathlib.Omega.{arith}
+use mathlib.Core.Path.{_≡_, sym, ap, _∙_}
+use mathlib.Core.Bool.{Bool, true}
 use mathlib.Core.List.{List}
-use Rattle.model.specs.Layout.{segment-of, index-of}
-use Rattle.model.specs.View.{class}
+use lib.ListN.{length}
+use Rattle.model.specs.Word.{part}
+use Rattle.model.specs.Class.{blocks, block-words}
+use Rattle.model.specs.Layout.{segment-of, index-of, block-at}
+use Rattle.model.specs.View.{segments, class, block-of, block, n-in, r-in}
 use Rattle.model.specs.Standing.{is-taken}
 use Rattle.model.specs.Sound.{sound}
 use Rattle.words.proofs.ClassLaws.{class-bounds}
-use Rattle.soundness.proofs.Facts.{Sound, sound-facts}
-use Rattle.soundness.proofs.Taken.{handle-facts, taken-class}
+use Rattle.soundness.proofs.Facts.{Sound, sound-facts, block-length}
+use Rattle.soundness.proofs.Taken.{handle-facts, taken-class, taken-n-room, taken-r-within}
+use Rattle.arena.specs.Inside.{Block}
 use Rattle.taken.specs.Row.{TakenRow}
-use Rattle.drawing.specs.Ruled.{Ruled, TakenBlock}
+use Rattle.drawing.specs.Ruled.{Ruled, TakenBlock, Asked, Fitting, BlockWords}
 
 pub ruled : (ws row : List ℕ) → sound ws ≡ true → TakenRow ws row → Ruled ws row
 ruled ws row s t =
@@ -34,3 +39,42 @@ taken-block ws h s t =
       high = bounds .1;
       inside = g .its-block .inside
     }
+
+pub asked : (ws : List ℕ) (h : ℕ) (a : Bool) → sound ws ≡ true → a ≡ is-taken ws h → Asked ws h a
+asked ws h a s e = record { right = e; there = λ t. taken-block ws h s (sym e ∙ t) }
+
+-- ---- the words of a taken block
+
+pub fitting : (ws : List ℕ) (h : ℕ) → TakenBlock ws h → Fitting (block ws h)
+fitting ws h b =
+    let f = sound-facts ws (b .is-sound) in
+    let g = handle-facts ws h (b .taken) in
+    let s : ℕ = segment-of h in
+    let k : ℕ = index-of h in
+    let long = block-length ws (f .size) s k (taken-class ws f s k (g .taken)) (g .its-block) in
+    record {
+      within = taken-r-within ws f s k (g .taken);
+      room = omega (arith, long, taken-n-room ws f s k (g .taken))
+    }
+
+module _ (ws : List ℕ) (h N s i k : ℕ) (en : N ≡ segments ws) (es : s ≡ segment-of h) (ei : i ≡ class ws s) (ek : k ≡ index-of h) (b : TakenBlock ws h) where
+  same-class : i ≡ class ws (segment-of h)
+  same-class = ei ∙ ap (class ws) es
+
+  pub block-there : Block ws N s i k
+  block-there =
+      let same-blocks : blocks i ≡ blocks (class ws (segment-of h)) = ap blocks same-class in
+      record {
+        few = omega (arith, b .few);
+        long = omega (arith, b .long);
+        there = omega (arith, b .there);
+        low = omega (arith, same-class, b .low);
+        high = omega (arith, same-class, b .high);
+        inside = omega (arith, b .inside)
+      }
+
+  pub block-words-are : (us : List ℕ) → us ≡ part ws (block-at N s i k) (block-words i) → BlockWords ws h us
+  unfolding block-of
+  block-words-are us e =
+      let same : us ≡ block ws h = e ∙ cc in
+      record { own = same; fitting = rw same (fitting ws h b) }

@@ -6,4 +6,6 @@
 // outcomes that meet a promise are equal (proofs/Unique).
 
 pub mod make;
-pub mod look;
+mod look;
+mod fields;
+mod rooms;

@@ -1,9 +1,9 @@
-// What a judged arena says of a handle and of a class.
+// What a judged arena says of a handle.
 ghost use mathlib.Core.Path.{_≡_};
-ghost use mathlib.Core.Bool.{true};
-ghost use Rattle.model.specs.View.{block};
-ghost use Rattle.model.specs.Standing.{is-taken, none-or-taken, standing-of};
-ghost use Rattle.drawing.specs.Ruled.{Ruled, TakenBlock};
+ghost use Prim.Native.Nat.{_<_};
+ghost use Rattle.model.specs.Layout.{segment-of, index-of};
+ghost use Rattle.model.specs.Standing.{is-block, none-or-taken, standing-of};
+ghost use Rattle.drawing.specs.Ruled.{Ruled, TakenBlock, Asked, BlockWords, Sized};
 use arena::block_of;
 use arena::class;
 use arena::segments;
@@ -19,7 +19,7 @@ use words::handles::segment;
 // The words of a taken block, from its offset to its end.
 pub fn block(arena: &[u32], h: Handle) -> &[u32]
     requires { ⌜ TakenBlock (now arena) (h .0) ⌝ }
-    ensures { λ r. ⌜ now r ≡ block (now (arena .entry)) (h .0) ⌝ }
+    ensures { λ r. ⌜ BlockWords (now (arena .entry)) (h .0) (now r) ⌝ }
 {
     let s = segment(h);
     let n = segments(arena);
@@ -29,16 +29,34 @@ pub fn block(arena: &[u32], h: Handle) -> &[u32]
 
 pub fn is_block_taken(arena: &[u32], row: &[u32; 4096], h: Handle) -> bool
     requires { ⌜ Ruled (now arena) (now row) ⌝ }
-    ensures { λ r. ⌜ r ≡ is-taken (now (arena .entry)) (h .0) ⌝ }
+    ensures { λ r. ⌜ Asked (now (arena .entry)) (h .0) r ⌝ }
 {
     is_taken(row, segments(arena), h.0)
 }
 
+// 0 or the handle of a taken block: what a reference may be.
 pub fn is_value(arena: &[u32], row: &[u32; 4096], v: u32) -> bool
     requires { ⌜ Ruled (now arena) (now row) ⌝ }
     ensures { λ r. ⌜ r ≡ none-or-taken (now (arena .entry)) v ⌝ }
 {
     none_or_taken(row, segments(arena), v)
+}
+
+// There is such a block: its segment is one of the arena's and not in the pool, and its index not past the class's blocks.
+fn is_block(arena: &[u32], h: Handle) -> bool
+    requires { ⌜ (0 < h .0) × Sized (now arena) ⌝ }
+    ensures { λ r. ⌜ r ≡ is-block (now (arena .entry)) (segment-of (h .0)) (index-of (h .0)) ⌝ }
+{
+    let s = segment(h);
+    if segments(arena) <= s {
+        return false;
+    }
+    let i = class(arena, s);
+    if i == 0 {
+        return false;
+    }
+    let k = index(h);
+    k.0 < blocks(i)
 }
 
 pub fn standing_of(arena: &[u32], row: &[u32; 4096], h: Handle) -> Standing
@@ -48,21 +66,12 @@ pub fn standing_of(arena: &[u32], row: &[u32; 4096], h: Handle) -> Standing
     if h.0 == 0 {
         return Standing::None;
     }
-    let s = segment(h);
-    if segments(arena) <= s {
-        return Standing::Outside;
-    }
-    let i = class(arena, s);
-    if i == 0 {
-        return Standing::Outside;
-    }
-    let k = index(h);
-    if blocks(i) <= k.0 {
-        return Standing::Outside;
-    }
     if is_block_taken(arena, row, h) {
-        Standing::Taken(shape(block(arena, h)))
-    } else {
+        return Standing::Taken(shape(block(arena, h)));
+    }
+    if is_block(arena, h) {
         Standing::Free
+    } else {
+        Standing::Outside
     }
 }

@@ -1,88 +1,57 @@
+-- `drawing::look::standing_of` gives the standing of a handle. Assumes nothing.
 use borrow.Author.Needs.{needs}
+use mathlib.Core.Path.{_≡_, ap, sym, _∙_}
+use Rattle.model.specs.Standing.{shape-in}
+use Rattle.model.specs.declared.Standing.the-variants.{Taken}
+use Rattle.soundness.proofs.Taken.{standing-taken}
+use Rattle.drawing.proofs.Standings.{stands-none, stands-free, stands-outside}
 use Rattle.drawing.proofs.look.standing_of.Statement.{statement}
 use Rattle.drawing.proofs.look.standing_of.Tie as tie
-use Rattle.drawing.proofs.look.standing_of.Reads as reads
-use Rattle.drawing.proofs.look.standing_of.Lts as lts
-use Rattle.arena.proofs.class.Reads as class-reads
-use Rattle.arena.proofs.segments.Reads as segments-reads
-use Rattle.drawing.proofs.look.block.Reads as block-reads
-use Rattle.drawing.proofs.look.is_block_taken.Reads as is-block-taken-reads
-use Rattle.words.proofs.class.blocks.Reads as blocks-reads
-use Rattle.words.proofs.fields.shape.Reads as shape-reads
-use Rattle.words.proofs.handles.index.Reads as index-reads
-use Rattle.words.proofs.handles.segment.Reads as segment-reads
 
--- src/look.rt:49:9
 returns : tie.Need-returns
-returns c = ?
+returns c =
+    let a = c .before .before .before .args in
+    stands-none (a .arena .now) (a .h .0) (c .if1 .taken)
 
--- src/look.rt:51:9
-segment-requires : tie.Need-segment-requires
-segment-requires c κs = search needs
-
--- src/look.rt:52:8
-segments-requires : tie.Need-segments-requires
-segments-requires c κs = search needs
-
--- src/look.rt:53:9
-returns-2 : tie.Need-returns-2
-returns-2 c = ?
-
--- src/look.rt:55:9
-class-requires : tie.Need-class-requires
-class-requires c κs = search needs
-
--- src/look.rt:57:9
-returns-3 : tie.Need-returns-3
-returns-3 c = ?
-
--- src/look.rt:59:9
-index-requires : tie.Need-index-requires
-index-requires c κs = search needs
-
--- src/look.rt:60:8
-blocks-requires : tie.Need-blocks-requires
-blocks-requires c κs = search needs
-
--- src/look.rt:61:9
-returns-4 : tie.Need-returns-4
-returns-4 c = ?
-
--- src/look.rt:63:8
 is-block-taken-requires : tie.Need-is-block-taken-requires
 is-block-taken-requires c κs = search needs
 
--- src/look.rt:64:31
 block-requires : tie.Need-block-requires
-block-requires c κs = ?
+block-requires c κs = c .before .is-block-taken .ensures .there (c .if2 .taken)
 
--- src/look.rt:64:25
 shape-requires : tie.Need-shape-requires
-shape-requires c κs = ?
+shape-requires c κs = search needs
 
--- src/look.rt:44:1
-returns-5 : tie.Need-returns-5
-returns-5 c = ?
+returns-2 : tie.Need-returns-2
+returns-2 c =
+    let a = c .before .before .before .before .before .before .before .args in
+    let asked = c .before .before .before .is-block-taken .ensures in
+    ap Taken (c .shape .ensures ∙ ap shape-in (c .before .block .ensures .own))
+    ∙ sym (standing-taken (a .arena .now) (a .h .0) (sym (asked .right) ∙ c .before .before .if2 .taken))
 
--- src/look.rt:44:1
-returns-6 : tie.Need-returns-6
-returns-6 c = ?
+is-block-requires : tie.Need-is-block-requires
+is-block-requires c κs = search needs
+
+returns-3 : tie.Need-returns-3
+returns-3 c =
+    let a = c .before .before .before .before .before .before .before .args in
+    stands-free (a .arena .now) (a .h .0) (c .before .before .before .before .if1 .left) (sym (c .before .is-block .ensures) ∙ c .if3 .taken)
+    (sym (c .before .before .before .is-block-taken .ensures .right) ∙ c .before .before .if2 .left)
+
+returns-4 : tie.Need-returns-4
+returns-4 c =
+    let a = c .before .before .before .before .before .before .before .args in
+    stands-outside (a .arena .now) (a .h .0) (c .before .before .before .before .if1 .left) (sym (c .before .is-block .ensures) ∙ c .if3 .left)
 
 pub standing-of-spec : {M : Type 1} → statement M
 standing-of-spec =
     tie.close
     (tie.spec
     returns
-    segment-requires
-    segments-requires
-    returns-2
-    class-requires
-    returns-3
-    index-requires
-    blocks-requires
-    returns-4
     is-block-taken-requires
     block-requires
     shape-requires
-    returns-5
-    returns-6)
+    returns-2
+    is-block-requires
+    returns-3
+    returns-4)
