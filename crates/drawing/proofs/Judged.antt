@@ -1,22 +1,25 @@
 -- What a judged arena gives to the calls: its size, its taken blocks, and the words of each. Assumes nothing.
-use Prim.Native.Nat.{ℕ, _+_, _≤_, _<_}
+use Prim.Native.Nat.{ℕ, _+_, _-_, _≤_, _<_}
 use native.Mathlib.Omega.{arith}
 use mathlib.Core.Path.{_≡_, sym, ap, _∙_}
-use mathlib.Core.Bool.{Bool, true}
-use mathlib.Core.List.{List}
-use lib.ListN.{length}
-use Rattle.model.specs.Word.{part}
+use mathlib.Core.Bool.{Bool, true, false, not}
+use mathlib.Core.List.{List, [], _∷_, _++_}
+use lib.ListN.{length, take, drop}
+use lib.Dec.{ltb}
+use borrow.Author.Tests.{ltb-true, not-true, not-false}
+use Rattle.model.specs.Word.{part, put}
 use Rattle.model.specs.Class.{blocks, block-words}
 use Rattle.model.specs.Layout.{segment-of, index-of, block-at}
-use Rattle.model.specs.View.{segments, class, block-of, block, n-in, r-in}
+use Rattle.model.specs.View.{segments, class, block-of, offset, block, n-in, r-in}
 use Rattle.model.specs.Standing.{is-taken}
 use Rattle.model.specs.Sound.{sound}
+use Rattle.laws.proofs.Splice.{length-part, length-put, put-mid, put-in-part}
 use Rattle.words.proofs.ClassLaws.{class-bounds}
-use Rattle.soundness.proofs.Facts.{Sound, sound-facts, block-length}
-use Rattle.soundness.proofs.Taken.{handle-facts, taken-class, taken-n-room, taken-r-within}
+use Rattle.soundness.proofs.Facts.{Sound, sound-facts, block-length, block-end}
+use Rattle.soundness.proofs.Taken.{handle-facts, taken-class, taken-n-room, taken-r-within, reference-inside, plain-inside}
 use Rattle.arena.specs.Inside.{Block}
 use Rattle.taken.specs.Row.{TakenRow}
-use Rattle.drawing.specs.Ruled.{Ruled, TakenBlock, Asked, Fitting, BlockWords}
+use Rattle.drawing.specs.Ruled.{Ruled, Judged, TakenBlock, Asked, Fitting, BlockWords, ReferenceField, PlainField, Starts}
 
 pub ruled : (ws row : List ℕ) → sound ws ≡ true → TakenRow ws row → Ruled ws row
 ruled ws row s t =
@@ -42,6 +45,22 @@ taken-block ws h s t =
 
 pub asked : (ws : List ℕ) (h : ℕ) (a : Bool) → sound ws ≡ true → a ≡ is-taken ws h → Asked ws h a
 asked ws h a s e = record { right = e; there = λ t. taken-block ws h s (sym e ∙ t) }
+
+-- ---- what a test tells that a call returns on where it fails
+
+module _ {ws row : List ℕ} {a : Bool} (j : Judged ws row a) where
+  pub not-sound : not a ≡ true → sound ws ≡ false
+  not-sound t = sym (j .right) ∙ not-true a t
+
+  pub is-ruled : not a ≡ false → Ruled ws row
+  is-ruled f = j .ruled (not-false a f)
+
+module _ {ws : List ℕ} {h : ℕ} {a : Bool} (k : Asked ws h a) where
+  pub not-taken : not a ≡ true → is-taken ws h ≡ false
+  not-taken t = sym (k .right) ∙ not-true a t
+
+  pub is-there : not a ≡ false → TakenBlock ws h
+  is-there f = k .there (not-false a f)
 
 -- ---- the words of a taken block
 
@@ -78,3 +97,51 @@ module _ (ws : List ℕ) (h N s i k : ℕ) (en : N ≡ segments ws) (es : s ≡ 
   block-words-are us e =
       let same : us ≡ block ws h = e ∙ cc in
       record { own = same; fitting = rw same (fitting ws h b) }
+
+  pub starts : (o : ℕ) → o ≡ block-at N s i k → Starts ws h o
+  starts o e =
+      let f = sound-facts ws (b .is-sound) in
+      let g = handle-facts ws h (b .taken) in
+      let same : o ≡ offset ws h = e ∙ cc in
+      record {
+        right = same;
+        ends = omega (arith, same, block-end ws (f .size) (segment-of h) (index-of h) (taken-class ws f (segment-of h) (index-of h) (g .taken)) (g .its-block));
+      }
+
+-- ---- its fields are some of its words
+
+module _ (ws : List ℕ) (h f : ℕ) (b : TakenBlock ws h) (us : List ℕ) (own : BlockWords ws h us) (a : Bool) where
+  pub reference-field : a ≡ ltb f (r-in us) → ReferenceField ws h f a
+  reference-field e =
+      let right : a ≡ ltb f (r-in (block ws h)) = e ∙ ap (λ (vs : List ℕ). ltb f (r-in vs)) (own .own) in
+      record {
+        right = right;
+        there = λ t. record {
+          taken = b;
+          below = reference-inside ws (sound-facts ws (b .is-sound)) (segment-of h) (index-of h) (handle-facts ws h (b .taken) .taken) f
+              (ltb-true f (r-in (block ws h)) (sym right ∙ t));
+        };
+      }
+
+  pub plain-field : a ≡ ltb f (n-in us - r-in us) → PlainField ws h f a
+  plain-field e =
+      let right : a ≡ ltb f (n-in (block ws h) - r-in (block ws h)) = e ∙ ap (λ (vs : List ℕ). ltb f (n-in vs - r-in vs)) (own .own) in
+      record {
+        right = right;
+        there = λ t. record { taken = b; below = ltb-true f (n-in (block ws h) - r-in (block ws h)) (sym right ∙ t) };
+        word-there = λ t. record {
+          taken = b;
+          below = plain-inside ws (sound-facts ws (b .is-sound)) (segment-of h) (index-of h) (handle-facts ws h (b .taken) .taken) f
+              (ltb-true f (n-in (block ws h) - r-in (block ws h)) (sym right ∙ t));
+        };
+      }
+
+-- ---- one of its words is changed
+
+-- a part of n words from o on is lent, and its word j becomes v
+pub put-lent : (ws : List ℕ) (o n j v : ℕ) (us : List ℕ) → o + n ≤ length ws → j < n → us ≡ put (part ws o n) j (v ∷ [])
+    → take o ws ++ (us ++ drop n (drop o ws)) ≡ put ws (o + j) (v ∷ [])
+put-lent ws o n j v us inside below e =
+    let long : length (part ws o n) ≡ n = length-part ws o n inside in
+    let same : length us ≡ n = ap length e ∙ length-put (part ws o n) j (v ∷ []) (omega arith) ∙ long in
+    put-mid o n ws us same ∙ ap (put ws o) e ∙ put-in-part ws o n j (v ∷ []) inside (omega arith)

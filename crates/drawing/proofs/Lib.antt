@@ -1,6 +1,8 @@
 pub mod FieldReads
 pub mod Judged
+pub mod Kept
 pub mod Outcomes
+pub mod Refusals
 pub mod RoomLaws
 pub mod Sizes
 pub mod Standings

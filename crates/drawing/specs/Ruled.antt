@@ -5,11 +5,11 @@ use mathlib.Core.Path.{_≡_}
 use mathlib.Core.Bool.{Bool, true, false, not, cond}
 use mathlib.Core.List.{List}
 use lib.ListN.{length}
-use lib.Dec.{eqb}
+use lib.Dec.{eqb, ltb}
 use Rattle.model.specs.Below.{count-below}
-use Rattle.model.specs.Class.{blocks}
+use Rattle.model.specs.Class.{blocks, block-words}
 use Rattle.model.specs.Layout.{arena-length, segment-of, index-of}
-use Rattle.model.specs.View.{segments, class, block, n-in, r-in}
+use Rattle.model.specs.View.{segments, class, offset, block, n-in, r-in}
 use Rattle.model.specs.Standing.{taken-at, is-taken}
 use Rattle.model.specs.Sound.{sound}
 use Rattle.model.specs.declared.Read.{Read}
@@ -62,10 +62,37 @@ pub record BlockWords (ws : List ℕ) (h : ℕ) (b : List ℕ) : Type 0 where
   pub own : b ≡ block ws h
   pub fitting : Fitting b
 
--- a plain word of a block
-pub record PlainField (b : List ℕ) (f : ℕ) : Type 0 where
+-- plain word f of a block
+pub record PlainOf (b : List ℕ) (f : ℕ) : Type 0 where
   pub fitting : Fitting b
   pub below : f < n-in b - r-in b
+
+-- ---- fields and words of a taken block
+
+-- word o of it
+pub record WordOf (ws : List ℕ) (h o : ℕ) : Type 0 where
+  pub taken : TakenBlock ws h
+  pub below : o < block-words (class ws (segment-of h))
+
+-- plain word f of it
+pub record TakenPlain (ws : List ℕ) (h f : ℕ) : Type 0 where
+  pub taken : TakenBlock ws h
+  pub below : f < n-in (block ws h) - r-in (block ws h)
+
+-- whether it has reference f, and whether it has plain word f, which is then one of its words
+pub record ReferenceField (ws : List ℕ) (h f : ℕ) (answer : Bool) : Type 0 where
+  pub right : answer ≡ ltb f (r-in (block ws h))
+  pub there : answer ≡ true → WordOf ws h (1 + f)
+
+pub record PlainField (ws : List ℕ) (h f : ℕ) (answer : Bool) : Type 0 where
+  pub right : answer ≡ ltb f (n-in (block ws h) - r-in (block ws h))
+  pub there : answer ≡ true → TakenPlain ws h f
+  pub word-there : answer ≡ true → WordOf ws h (1 + r-in (block ws h) + f)
+
+-- where it begins; it ends within the arena
+pub record Starts (ws : List ℕ) (h o : ℕ) : Type 0 where
+  pub right : o ≡ offset ws h
+  pub ends : o + block-words (class ws (segment-of h)) ≤ length ws
 
 -- the answer of reading a field, if there is one
 abbrev pub field-read : Bool → ℕ → Read

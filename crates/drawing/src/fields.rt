@@ -9,7 +9,7 @@ ghost use lib.Dec.{ltb};
 ghost use lib.ListN.{length};
 ghost use Rattle.model.specs.Word.{put};
 ghost use Rattle.model.specs.View.{n-in, r-in, reference-in, plain-in, plain-words-in};
-ghost use Rattle.drawing.specs.Ruled.{Fitting, PlainField, field-read};
+ghost use Rattle.drawing.specs.Ruled.{Fitting, PlainOf, field-read};
 use model::Read;
 use words::fields::header_n;
 use words::fields::header_r;
@@ -32,7 +32,7 @@ pub fn has_plain(block: &[u32], f: u32) -> bool
 
 // Where a plain word stands in its block: behind the header and the references.
 pub fn plain_at(block: &[u32], f: u32) -> u32
-    requires { ⌜ PlainField (now block) f ⌝ }
+    requires { ⌜ PlainOf (now block) f ⌝ }
     ensures { λ r. ⌜ r ≡ 1 + r-in (now (block .entry)) + f ⌝ }
 {
     1 + header_r(block[0]) + f

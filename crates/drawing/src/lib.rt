@@ -6,6 +6,11 @@
 // outcomes that meet a promise are equal (proofs/Unique).
 
 pub mod make;
+pub mod ask;
+pub mod references;
+pub mod plain;
 mod look;
 mod fields;
+mod put;
 mod rooms;
+mod judge;

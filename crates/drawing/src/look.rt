@@ -1,12 +1,16 @@
 // What a judged arena says of a handle.
 ghost use mathlib.Core.Path.{_≡_};
-ghost use Prim.Native.Nat.{_<_};
+ghost use Prim.Native.Nat.{_+_, _<_};
 ghost use Rattle.model.specs.Layout.{segment-of, index-of};
+ghost use Rattle.model.specs.View.{block, r-in};
 ghost use Rattle.model.specs.Standing.{is-block, none-or-taken, standing-of};
-ghost use Rattle.drawing.specs.Ruled.{Ruled, TakenBlock, Asked, BlockWords, Sized};
+ghost use Rattle.drawing.specs.Ruled.{Sized, Ruled, TakenBlock, Asked, BlockWords, ReferenceField, PlainField, TakenPlain};
 use arena::block_of;
 use arena::class;
 use arena::segments;
+use crate::fields::has_plain;
+use crate::fields::has_reference;
+use crate::fields::plain_at;
 use model::Handle;
 use model::Standing;
 use taken::ask::is_taken;
@@ -74,4 +78,26 @@ pub fn standing_of(arena: &[u32], row: &[u32; 4096], h: Handle) -> Standing
     } else {
         Standing::Outside
     }
+}
+
+// Whether a taken block has reference f, and whether it has plain word f.
+pub fn has_reference_field(arena: &[u32], h: Handle, f: u32) -> bool
+    requires { ⌜ TakenBlock (now arena) (h .0) ⌝ }
+    ensures { λ r. ⌜ ReferenceField (now (arena .entry)) (h .0) f r ⌝ }
+{
+    has_reference(block(arena, h), f)
+}
+
+pub fn has_plain_field(arena: &[u32], h: Handle, f: u32) -> bool
+    requires { ⌜ TakenBlock (now arena) (h .0) ⌝ }
+    ensures { λ r. ⌜ PlainField (now (arena .entry)) (h .0) f r ⌝ }
+{
+    has_plain(block(arena, h), f)
+}
+
+pub fn plain_field_at(arena: &[u32], h: Handle, f: u32) -> u32
+    requires { ⌜ TakenPlain (now arena) (h .0) f ⌝ }
+    ensures { λ r. ⌜ r ≡ 1 + r-in (block (now (arena .entry)) (h .0)) + f ⌝ }
+{
+    plain_at(block(arena, h), f)
 }

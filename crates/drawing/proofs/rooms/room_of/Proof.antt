@@ -1,47 +1,53 @@
+-- `drawing::rooms::room_of` gives the room of a class. The loop's invariant: the room of the first s segments is counted. Assumes nothing.
+use borrow.Author.Needs.{needs}
+use Prim.Native.Nat.{ℕ, _+_, _-_, _*_, _≤_}
+use native.Mathlib.Omega.{arith}
+use mathlib.Core.Path.{_≡_, ap, ap₂, sym, _∙_}
+use Rattle.model.specs.Below.{sum-below}
+use Rattle.model.specs.View.{segments}
+use Rattle.laws.proofs.Below.{sum-below-step}
+use Rattle.drawing.specs.Ruled.{room-in}
+use Rattle.drawing.proofs.RoomLaws.{room-sum}
 use Rattle.drawing.proofs.rooms.room_of.Statement.{statement}
 use Rattle.drawing.proofs.rooms.room_of.Tie as tie
-use Rattle.drawing.proofs.rooms.room_of.Reads as reads
-use Rattle.drawing.proofs.rooms.room_of.Lts as lts
-use Rattle.arena.proofs.segments.Reads as segments-reads
-use Rattle.drawing.proofs.rooms.room_in.Reads as room-in-reads
 
 abbrev Inv-loop : tie.InvT-loop
-Inv-loop arena row class n room₀ s₀ room s = ?
+Inv-loop arena row class n room₀ s₀ room s = (n ≡ segments arena) × (s ≤ n) × (room ≤ 2048 * s) × (room ≡ sum-below s (room-in arena class))
 
 abbrev μ-loop : tie.MeasureT-loop
-μ-loop arena row class n room₀ s₀ room s = ?
+μ-loop arena row class n room₀ s₀ room s = n - s
 
--- src/rooms.rt:45:9
 segments-requires : tie.Need-segments-requires Inv-loop μ-loop
-segments-requires c κs = ?
+segments-requires c κs = search needs
 
--- src/rooms.rt:48:5
 loop-holds : tie.Need-loop-holds Inv-loop μ-loop
-loop-holds c = ?
+unfolding sum-below
+loop-holds c = search needs
 
--- src/rooms.rt:49:17
 room-in-requires : tie.Need-room-in-requires Inv-loop μ-loop
-room-in-requires c κs = ?
+room-in-requires c κs = search needs
 
--- src/rooms.rt:49:9
 add-room : tie.Need-add-room Inv-loop μ-loop
-add-room c = ?
+add-room c = search needs
 
--- src/rooms.rt:50:9
 add-s : tie.Need-add-s Inv-loop μ-loop
-add-s c = ?
+add-s c = search needs
 
--- src/rooms.rt:48:5
 loop-less : tie.Need-loop-less Inv-loop μ-loop
-loop-less c = ?
+loop-less c = search needs
 
--- src/rooms.rt:48:5
 loop-again : tie.Need-loop-again Inv-loop μ-loop
-loop-again c = ?
+loop-again c =
+    let ws = c .before .before .before .before .before .args .arena .now in
+    let i = c .before .before .before .before .before .args .class in
+    let s = c .before .before .loop .s in
+    (search needs, search needs, search needs, ap₂ _+_ (c .before .before .loop .inv .3) (c .room-in .ensures .right) ∙ sym (sum-below-step s (room-in ws i)))
 
--- src/rooms.rt:41:1
 returns : tie.Need-returns Inv-loop μ-loop
-returns c = ?
+returns c =
+    let a = c .before .before .before .before .args in
+    let end : c .before .loop .s ≡ segments (a .arena .now) = omega arith in
+    c .before .loop .inv .3 ∙ ap (λ (n : ℕ). sum-below n (room-in (a .arena .now) (a .class))) end ∙ room-sum (a .arena .now) (a .class)
 
 pub room-of-spec : {M : Type 1} → statement M
 room-of-spec =
