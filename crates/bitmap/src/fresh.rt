@@ -1,7 +1,6 @@
 // The record of a segment that joins a class.
 ghost use mathlib.Core.Path.{_≡_};
 ghost use mathlib.Core.Bool.{false};
-ghost use Prim.Native.Nat.{_<_};
 ghost use Rattle.model.specs.Layout.{record-words};
 ghost use Rattle.bitmap.specs.Tree.{OnLevel, Fresh, head-only, padding-word, padded-level};
 use crate::levels::level_end;
