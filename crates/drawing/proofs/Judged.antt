@@ -19,7 +19,8 @@ use Rattle.soundness.proofs.Facts.{Sound, sound-facts, block-length, block-end}
 use Rattle.soundness.proofs.Taken.{handle-facts, taken-class, taken-n-room, taken-r-within, reference-inside, plain-inside}
 use Rattle.arena.specs.Inside.{Block}
 use Rattle.taken.specs.Row.{TakenRow}
-use Rattle.drawing.specs.Ruled.{Ruled, Judged, TakenBlock, Asked, Fitting, BlockWords, ReferenceField, PlainField, Starts}
+use Rattle.judge.specs.Judged.{Judged}
+use Rattle.drawing.specs.Ruled.{Ruled, TakenBlock, Asked, Fitting, BlockWords, ReferenceField, PlainField, Starts}
 
 pub ruled : (ws row : List ℕ) → sound ws ≡ true → TakenRow ws row → Ruled ws row
 ruled ws row s t =
@@ -40,7 +41,7 @@ taken-block ws h s t =
       there = g .its-block .member .below;
       low = bounds .0;
       high = bounds .1;
-      inside = g .its-block .inside
+      inside = g .its-block .inside;
     }
 
 pub asked : (ws : List ℕ) (h : ℕ) (a : Bool) → sound ws ≡ true → a ≡ is-taken ws h → Asked ws h a
@@ -50,10 +51,10 @@ asked ws h a s e = record { right = e; there = λ t. taken-block ws h s (sym e �
 
 module _ {ws row : List ℕ} {a : Bool} (j : Judged ws row a) where
   pub not-sound : not a ≡ true → sound ws ≡ false
-  not-sound t = sym (j .right) ∙ not-true a t
+  not-sound t = sym (j .answered) ∙ not-true a t
 
   pub is-ruled : not a ≡ false → Ruled ws row
-  is-ruled f = j .ruled (not-false a f)
+  is-ruled f = ruled ws row (sym (j .answered) ∙ not-false a f) (j .taken (not-false a f))
 
 module _ {ws : List ℕ} {h : ℕ} {a : Bool} (k : Asked ws h a) where
   pub not-taken : not a ≡ true → is-taken ws h ≡ false
@@ -73,7 +74,7 @@ fitting ws h b =
     let long = block-length ws (f .size) s k (taken-class ws f s k (g .taken)) (g .its-block) in
     record {
       within = taken-r-within ws f s k (g .taken);
-      room = omega (arith, long, taken-n-room ws f s k (g .taken))
+      room = omega (arith, long, taken-n-room ws f s k (g .taken));
     }
 
 module _ (ws : List ℕ) (h N s i k : ℕ) (en : N ≡ segments ws) (es : s ≡ segment-of h) (ei : i ≡ class ws s) (ek : k ≡ index-of h) (b : TakenBlock ws h) where
@@ -89,7 +90,7 @@ module _ (ws : List ℕ) (h N s i k : ℕ) (en : N ≡ segments ws) (es : s ≡ 
         there = omega (arith, b .there);
         low = omega (arith, same-class, b .low);
         high = omega (arith, same-class, b .high);
-        inside = omega (arith, b .inside)
+        inside = omega (arith, b .inside);
       }
 
   pub block-words-are : (us : List ℕ) → us ≡ part ws (block-at N s i k) (block-words i) → BlockWords ws h us

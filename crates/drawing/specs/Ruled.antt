@@ -30,11 +30,6 @@ pub record Sized (ws : List ℕ) : Type 0 where
   pub few : segments ws ≤ 64
   pub long : length ws ≡ arena-length (segments ws)
 
--- what the judge tells
-pub record Judged (ws row : List ℕ) (answer : Bool) : Type 0 where
-  pub right : answer ≡ sound ws
-  pub ruled : answer ≡ true → Ruled ws row
-
 -- a taken block of a sound arena
 pub record TakenBlock (ws : List ℕ) (h : ℕ) : Type 0 where
   pub is-sound : sound ws ≡ true

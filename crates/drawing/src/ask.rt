@@ -1,10 +1,10 @@
 // Asking: the standing of a handle, the shape of a block, the room of a class.
 ghost use Rattle.model.specs.Calls.{AskStanding, AskShape, AskRoom};
-use crate::judge::judge;
 use crate::look::block;
 use crate::look::is_block_taken;
 use crate::look::standing_of;
 use crate::rooms::room_of;
+use judge::judge;
 use model::Handle;
 use model::Room;
 use model::Shaped;

@@ -5,12 +5,11 @@
 // and leaves, for all inputs and all refusals, is one promise of crate model (specs/Calls), and two
 // outcomes that meet a promise are equal (proofs/Unique).
 
-pub mod make;
 pub mod ask;
-pub mod references;
-pub mod plain;
-mod look;
 mod fields;
+mod look;
+pub mod make;
+pub mod plain;
 mod put;
+pub mod references;
 mod rooms;
-mod judge;

@@ -2,12 +2,12 @@
 ghost use Rattle.model.specs.Calls.{ReadPlain, WritePlain, PlainWords};
 use crate::fields::plain;
 use crate::fields::plain_part;
-use crate::judge::judge;
 use crate::look::block;
 use crate::look::has_plain_field;
 use crate::look::is_block_taken;
 use crate::look::plain_field_at;
 use crate::put::put_in_block;
+use judge::judge;
 use model::Handle;
 use model::Read;
 use model::Written;

@@ -1,12 +1,12 @@
 // Reading and writing a reference of a block.
 ghost use Rattle.model.specs.Calls.{ReadReference, WriteReference};
 use crate::fields::reference;
-use crate::judge::judge;
 use crate::look::block;
 use crate::look::has_reference_field;
 use crate::look::is_block_taken;
 use crate::look::is_value;
 use crate::put::put_in_block;
+use judge::judge;
 use model::Handle;
 use model::Read;
 use model::Written;

@@ -19,7 +19,7 @@ returns c =
     refused _ 2 (shape-values (shape-of ws (a .h .0))) ws ws (block-unsound ws (a .h .0) 0 (not-sound (c .before .judge .ensures) (c .if1 .taken))) refl
 
 is-block-taken-requires : tie.Need-is-block-taken-requires
-is-block-taken-requires c κs =     is-ruled (c .before .before .judge .ensures) (c .before .if1 .left)
+is-block-taken-requires c κs = is-ruled (c .before .before .judge .ensures) (c .before .if1 .left)
 
 returns-2 : tie.Need-returns-2
 returns-2 c =
@@ -29,7 +29,7 @@ returns-2 c =
     refused _ 5 (shape-values (shape-of ws (a .h .0))) ws ws (block-untaken ws (a .h .0) 0 (ruled .is-sound) (not-taken (c .before .is-block-taken .ensures) (c .if2 .taken))) refl
 
 block-requires : tie.Need-block-requires
-block-requires c κs =     is-there (c .before .is-block-taken .ensures) (c .if2 .left)
+block-requires c κs = is-there (c .before .is-block-taken .ensures) (c .if2 .left)
 
 shape-requires : tie.Need-shape-requires
 shape-requires c κs = search needs

@@ -20,7 +20,7 @@ returns c =
     rw (standing-zeros stands) at (refused _ 2 (standing-values stands) ws ws (unsound ws 0 (not-sound (c .before .judge .ensures) (c .if1 .taken))) refl)
 
 standing-of-requires : tie.Need-standing-of-requires
-standing-of-requires c κs =     is-ruled (c .before .before .judge .ensures) (c .before .if1 .left)
+standing-of-requires c κs = is-ruled (c .before .before .judge .ensures) (c .before .if1 .left)
 
 returns-2 : tie.Need-returns-2
 returns-2 c =

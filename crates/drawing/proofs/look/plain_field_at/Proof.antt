@@ -20,7 +20,7 @@ plain-at-requires c κs =
     record { fitting = c .block .ensures .fitting; below = omega (arith, c .before .before .pre .below) }
 
 returns : tie.Need-returns
-returns c =     c .plain-at .ensures ∙ ap (λ (us : List _). 1 + r-in us + c .before .before .before .args .f) (c .before .block .ensures .own)
+returns c = c .plain-at .ensures ∙ ap (λ (us : List _). 1 + r-in us + c .before .before .before .args .f) (c .before .block .ensures .own)
 
 pub plain-field-at-spec : {M : Type 1} → statement M
 plain-field-at-spec = tie.close (tie.spec block-requires plain-at-requires returns)

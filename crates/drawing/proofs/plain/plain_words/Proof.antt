@@ -25,7 +25,7 @@ returns c =
     no-plain-words (a .arena .now) (a .h .0) 2 (block-unsound (a .arena .now) (a .h .0) 0 (not-sound (c .before .before .judge .ensures) (c .before .if1 .taken))) refl
 
 is-block-taken-requires : tie.Need-is-block-taken-requires
-is-block-taken-requires c κs =     is-ruled (c .before .before .judge .ensures) (c .before .if1 .left)
+is-block-taken-requires c κs = is-ruled (c .before .before .judge .ensures) (c .before .if1 .left)
 
 sub-result-2 : tie.Need-sub-result-2
 sub-result-2 c = search needs
@@ -44,7 +44,7 @@ returns-2 c =
     (block-untaken (a .arena .now) (a .h .0) 0 (ruled .is-sound) (not-taken (c .before .before .is-block-taken .ensures) (c .before .if2 .taken))) refl
 
 block-requires : tie.Need-block-requires
-block-requires c κs =     is-there (c .before .is-block-taken .ensures) (c .if2 .left)
+block-requires c κs = is-there (c .before .is-block-taken .ensures) (c .if2 .left)
 
 plain-part-requires : tie.Need-plain-part-requires
 plain-part-requires c κs = search needs

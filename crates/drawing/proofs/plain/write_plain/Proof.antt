@@ -30,7 +30,7 @@ returns c =
     refused _ 2 [] (put ws (offset ws h + 1 + r-in (block ws h) + f) (v ∷ [])) ws (block-unsound ws h _ (not-sound (c .before .judge .ensures) (c .if1 .taken))) refl
 
 is-block-taken-requires : tie.Need-is-block-taken-requires
-is-block-taken-requires c κs =     is-ruled (c .before .before .before .judge .ensures) (c .before .before .if1 .left)
+is-block-taken-requires c κs = is-ruled (c .before .before .before .judge .ensures) (c .before .before .if1 .left)
 
 same-length-2 : tie.Need-same-length-2
 same-length-2 c = search needs
@@ -46,7 +46,7 @@ returns-2 c =
     refused _ 5 [] (put ws (offset ws h + 1 + r-in (block ws h) + f) (v ∷ [])) ws (block-untaken ws h _ (ruled .is-sound) (not-taken (c .before .is-block-taken .ensures) (c .if2 .taken))) refl
 
 has-plain-field-requires : tie.Need-has-plain-field-requires
-has-plain-field-requires c κs =     is-there (c .before .before .is-block-taken .ensures) (c .before .if2 .left)
+has-plain-field-requires c κs = is-there (c .before .before .is-block-taken .ensures) (c .before .if2 .left)
 
 same-length-3 : tie.Need-same-length-3
 same-length-3 c = search needs
@@ -63,7 +63,7 @@ returns-3 c =
     refused _ 6 [] (put ws (offset ws h + 1 + r-in (block ws h) + f) (v ∷ [])) ws (block-taken ws h _ (there .is-sound) (there .taken) ∙ fails 6 _ (ltb f (n-in (block ws h) - r-in (block ws h))) none) refl
 
 plain-field-at-requires : tie.Need-plain-field-at-requires
-plain-field-at-requires c κs =     c .before .before .has-plain-field .ensures .there (not-false _ (c .before .if3 .left))
+plain-field-at-requires c κs = c .before .before .has-plain-field .ensures .there (not-false _ (c .before .if3 .left))
 
 put-in-block-requires : tie.Need-put-in-block-requires
 put-in-block-requires c κs =

@@ -20,8 +20,8 @@ offset-requires : tie.Need-offset-requires
 offset-requires c κs =
     let start = c .before .before .before .before .before in
     let b =
-        block-there (start .args .arena .now) (start .args .h .0) _ _ _ _ (c .before .before .segments .ensures) (c .before .before .before .segment .ensures)
-        (c .before .class .ensures) (c .index .ensures) (start .pre) in
+    block-there (start .args .arena .now) (start .args .h .0) _ _ _ _ (c .before .before .segments .ensures) (c .before .before .before .segment .ensures)
+    (c .before .class .ensures) (c .index .ensures) (start .pre) in
     (b .few, b .there, b .low, b .high, b .inside)
 
 returns : tie.Need-returns

@@ -21,7 +21,7 @@ returns c =
     refused _ 2 (reference-in (block ws (a .h .0)) (a .f) ∷ []) ws ws (block-unsound ws (a .h .0) _ (not-sound (c .before .judge .ensures) (c .if1 .taken))) refl
 
 is-block-taken-requires : tie.Need-is-block-taken-requires
-is-block-taken-requires c κs =     is-ruled (c .before .before .judge .ensures) (c .before .if1 .left)
+is-block-taken-requires c κs = is-ruled (c .before .before .judge .ensures) (c .before .if1 .left)
 
 returns-2 : tie.Need-returns-2
 returns-2 c =
@@ -32,7 +32,7 @@ returns-2 c =
     (block-untaken ws (a .h .0) _ (ruled .is-sound) (not-taken (c .before .is-block-taken .ensures) (c .if2 .taken))) refl
 
 block-requires : tie.Need-block-requires
-block-requires c κs =     is-there (c .before .is-block-taken .ensures) (c .if2 .left)
+block-requires c κs = is-there (c .before .is-block-taken .ensures) (c .if2 .left)
 
 reference-requires : tie.Need-reference-requires
 reference-requires c κs = search needs

@@ -31,7 +31,7 @@ returns c =
     refused _ 2 [] (put ws (offset ws h + 1 + f) (v ∷ [])) ws (block-unsound ws h _ (not-sound (c .before .judge .ensures) (c .if1 .taken))) refl
 
 is-block-taken-requires : tie.Need-is-block-taken-requires
-is-block-taken-requires c κs =     is-ruled (c .before .before .before .judge .ensures) (c .before .before .if1 .left)
+is-block-taken-requires c κs = is-ruled (c .before .before .before .judge .ensures) (c .before .before .if1 .left)
 
 same-length-2 : tie.Need-same-length-2
 same-length-2 c = search needs
@@ -47,7 +47,7 @@ returns-2 c =
     refused _ 5 [] (put ws (offset ws h + 1 + f) (v ∷ [])) ws (block-untaken ws h _ (ruled .is-sound) (not-taken (c .before .is-block-taken .ensures) (c .if2 .taken))) refl
 
 has-reference-field-requires : tie.Need-has-reference-field-requires
-has-reference-field-requires c κs =     is-there (c .before .before .is-block-taken .ensures) (c .before .if2 .left)
+has-reference-field-requires c κs = is-there (c .before .before .is-block-taken .ensures) (c .before .if2 .left)
 
 same-length-3 : tie.Need-same-length-3
 same-length-3 c = search needs
@@ -64,7 +64,7 @@ returns-3 c =
     refused _ 6 [] (put ws (offset ws h + 1 + f) (v ∷ [])) ws (block-taken ws h _ (there .is-sound) (there .taken) ∙ fails 6 _ (ltb f (r-in (block ws h))) none) refl
 
 is-value-requires : tie.Need-is-value-requires
-is-value-requires c κs =     is-ruled (c .before .before .before .before .before .before .before .before .before .before .judge .ensures) (c .before .before .before .before .before .before .before .before .before .if1 .left)
+is-value-requires c κs = is-ruled (c .before .before .before .before .before .before .before .before .before .before .judge .ensures) (c .before .before .before .before .before .before .before .before .before .if1 .left)
 
 same-length-4 : tie.Need-same-length-4
 same-length-4 c = search needs
@@ -90,7 +90,7 @@ add-put-in-block c =
     omega (arith, ltb-true (a .f) (r-in b) field)
 
 put-in-block-requires : tie.Need-put-in-block-requires
-put-in-block-requires c κs =     c .before .before .before .before .before .before .has-reference-field .ensures .there (not-false _ (c .before .before .before .before .before .if3 .left))
+put-in-block-requires c κs = c .before .before .before .before .before .before .has-reference-field .ensures .there (not-false _ (c .before .before .before .before .before .if3 .left))
 
 same-length-5 : tie.Need-same-length-5
 same-length-5 c = search needs
