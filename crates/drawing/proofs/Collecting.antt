@@ -21,7 +21,7 @@ use Rattle.taken.specs.Row.{TakenRow, row-none-or-taken}
 use Rattle.taken.proofs.RowLaws.{row-none-or-taken-is}
 use Rattle.trace.specs.Trace.{Traceable, Traced}
 use Rattle.ranking.specs.Anew.{TakenList}
-use Rattle.drawing.proofs.Refusals.{collect-may}
+use Rattle.drawing.proofs.RefusalNumbers.{collect-may}
 
 pub taken-list : {ws roots list marks list' marks' : List ℕ} {c : ℕ} → Traceable ws roots list marks → Traced ws roots list c list' marks'
     → TakenList ws (take c list')

@@ -1,74 +1,85 @@
--- When allocate and collect refuse, number by number. Assumes nothing.
+-- The lowest refusal that applies, from the tests of its calls; and the outcome of reading a field. Assumes nothing.
 use Prim.Native.Nat.{ℕ, _≤_, _<_}
-use mathlib.Core.Path.{_≡_, refl}
-use mathlib.Core.Logic.{_≢_}
-use mathlib.Core.Bool.{Bool, true, false, not, or-true}
-use mathlib.Core.List.{List}
-use lib.ListN.{length, getD}
-use lib.Dec.{ltb}
-use native.Mathlib.Omega.{arith}
-use borrow.Author.Tests.{lt-ltb, le-ltb, ltb-false}
-use Rattle.model.specs.Below.{all-below}
-use Rattle.model.specs.Standing.{none-or-taken, taken-count}
+use mathlib.Core.Path.{_≡_, refl, sym, ap, _∙_}
+use mathlib.Core.Bool.{Bool, true, false, not, and-false}
+use mathlib.Core.List.{List, [], _∷_, map}
+use lib.Dec.{eqb, leb}
+use borrow.Author.Tests.{lt-leb}
+use Rattle.model.specs.Class.{is-class}
+use Rattle.model.specs.View.{block, plain-words-in}
+use Rattle.model.specs.Standing.{is-taken}
 use Rattle.model.specs.Sound.{sound}
-use Rattle.model.specs.Numbers.{refuse}
-use Rattle.model.specs.Calls.{allocate-refusal, collect-refusal}
+use Rattle.model.specs.Numbers.{refuse, standing-values, read-paper}
+use Rattle.model.specs.Calls.{Outcome, block-refusal, PlainWords}
+use Rattle.model.specs.declared.Standing.{Standing}
+use Rattle.model.specs.declared.Standing.the-variants.{None, Outside, Free, Taken}
+use Rattle.model.specs.declared.Read.{Read}
+use Rattle.words.proofs.ClassLaws.{bounds-class}
+use Rattle.drawing.specs.Ruled.{field-read}
+use Rattle.drawing.proofs.Outcomes.{refused, granted}
 
-pub allocate-unsound : (ws : List ℕ) (n r : ℕ) → sound ws ≡ false → allocate-refusal ws n r ≡ 2
-unfolding allocate-refusal
-allocate-unsound ws n r s = rw s
+-- ---- 2: the arena isn't sound
 
-pub allocate-large : (ws : List ℕ) (n r : ℕ) → sound ws ≡ true → 1023 < n → allocate-refusal ws n r ≡ 3
-unfolding allocate-refusal
-allocate-large ws n r s l = rw (s, lt-ltb 1023 n l)
+module _ (ws : List ℕ) (x : ℕ) where
+  pub unsound : sound ws ≡ false → refuse 2 (not (sound ws)) x ≡ 2
+  unsound s = rw s
 
-pub allocate-more-references : (ws : List ℕ) (n r : ℕ) → sound ws ≡ true → n < r → allocate-refusal ws n r ≡ 3
-unfolding allocate-refusal
-allocate-more-references ws n r s l = rw (s, lt-ltb n r l, or-true)
+  pub judged : sound ws ≡ true → refuse 2 (not (sound ws)) x ≡ x
+  judged s = rw s
 
-abbrev pub roots-right : List ℕ → List ℕ → Bool
-roots-right ws roots = all-below (length roots) (λ p. none-or-taken ws (getD roots p 0))
+-- ---- 3 of room: no such class
 
-pub collect-unsound : (ws roots list : List ℕ) → sound ws ≡ false → collect-refusal ws roots list ≡ 2
-unfolding collect-refusal
-collect-unsound ws roots list s = rw s
+module _ (i : ℕ) where
+  pub low-class : i < 3 → refuse 3 (not (is-class i)) 0 ≡ 3
+  low-class l = rw (lt-leb 3 i l)
 
-pub collect-bad-root : (ws roots list : List ℕ) → sound ws ≡ true → roots-right ws roots ≡ false → collect-refusal ws roots list ≡ 8
-unfolding collect-refusal
-collect-bad-root ws roots list s r = rw (s, r)
+  pub high-class : 12 < i → refuse 3 (not (is-class i)) 0 ≡ 3
+  high-class l = rw (lt-leb i 12 l, and-false (leb 3 i))
 
-pub collect-short-list : (ws roots list : List ℕ) → sound ws ≡ true → roots-right ws roots ≡ true → length list < taken-count ws
-    → collect-refusal ws roots list ≡ 9
-unfolding collect-refusal
-collect-short-list ws roots list s r l = rw (s, r, lt-ltb (length list) (taken-count ws) l)
+  pub a-class : 3 ≤ i → i ≤ 12 → refuse 3 (not (is-class i)) 0 ≡ 0
+  a-class low high = rw (bounds-class i low high)
 
-pub collect-granted : (ws roots list : List ℕ) → sound ws ≡ true → roots-right ws roots ≡ true → taken-count ws ≤ length list
-    → collect-refusal ws roots list ≡ 0
-unfolding collect-refusal
-collect-granted ws roots list s r l = rw (s, r, le-ltb (length list) (taken-count ws) l)
+-- ---- 5: the handle isn't a taken block; and what is asked after it
 
--- there is no other number
-pub collect-else : (ws roots list : List ℕ) → collect-refusal ws roots list ≢ 2 → collect-refusal ws roots list ≢ 8 → collect-refusal ws roots list ≢ 9
-    → collect-refusal ws roots list ≡ 0
-unfolding collect-refusal
-collect-else ws roots list = go (not (sound ws)) (not (roots-right ws roots)) (ltb (length list) (taken-count ws))
+module _ (ws : List ℕ) (h x : ℕ) where
+  pub block-unsound : sound ws ≡ false → block-refusal ws h x ≡ 2
+  block-unsound s = rw s
+
+  pub block-untaken : sound ws ≡ true → is-taken ws h ≡ false → block-refusal ws h x ≡ 5
+  block-untaken s t = rw (s, t)
+
+  pub block-taken : sound ws ≡ true → is-taken ws h ≡ true → block-refusal ws h x ≡ x
+  block-taken s t = rw (s, t)
+
+-- ---- 6 and 7: there is no such field; the value is no reference
+
+pub fails : (e x : ℕ) (t : Bool) → t ≡ false → refuse e (not t) x ≡ e
+fails e x t f = rw f
+
+pub holds : (e x : ℕ) (t : Bool) → t ≡ true → refuse e (not t) x ≡ x
+holds e x t f = rw f
+
+-- ---- whole outcomes
+
+-- every value of a refused standing is 0
+pub standing-zeros : (s : Standing) → map {A = ℕ} {B = ℕ} (λ v. 0) (standing-values s) ≡ 0 ∷ 0 ∷ 0 ∷ 0 ∷ []
+standing-zeros None = refl
+standing-zeros Outside = refl
+standing-zeros Free = refl
+standing-zeros (Taken s) = refl
+
+-- a field of a taken block, if there is one
+pub field-outcome : (ws : List ℕ) (h v : ℕ) (t : Bool) (a : Read) → sound ws ≡ true → is-taken ws h ≡ true → a ≡ field-read t v
+    → Outcome (block-refusal ws h (refuse 6 (not t) 0)) (v ∷ []) ws ws (read-paper a) ws
+field-outcome ws h v t a s k e = rw e (go t)
   where
-    go : (a b c : Bool) → refuse 2 a (refuse 8 b (refuse 9 c 0)) ≢ 2 → refuse 2 a (refuse 8 b (refuse 9 c 0)) ≢ 8 → refuse 2 a (refuse 8 b (refuse 9 c 0)) ≢ 9
-        → refuse 2 a (refuse 8 b (refuse 9 c 0)) ≡ 0
-    go true b c x y z = absurd (x refl)
-    go false true c x y z = absurd (y refl)
-    go false false true x y z = absurd (z refl)
-    go false false false x y z = refl
+    go : (t : Bool) → Outcome (block-refusal ws h (refuse 6 (not t) 0)) (v ∷ []) ws ws (read-paper (field-read t v)) ws
+    go true = granted _ (v ∷ []) ws ws (block-taken ws h 0 s k)
+    go false = refused _ 6 (v ∷ []) ws ws (block-taken ws h 6 s k) refl
 
--- a collection that is not refused may be traced
-pub collect-may : (ws roots list : List ℕ) → collect-refusal ws roots list ≡ 0
-    → (sound ws ≡ true) × (roots-right ws roots ≡ true) × (taken-count ws ≤ length list)
-unfolding collect-refusal
-collect-may ws roots list = go (sound ws) (roots-right ws roots) (ltb (length list) (taken-count ws)) (ltb-false (length list) (taken-count ws))
-  where
-    go : (a b c : Bool) → (c ≡ false → taken-count ws ≤ length list) → refuse 2 (not a) (refuse 8 (not b) (refuse 9 c 0)) ≡ 0
-        → (a ≡ true) × (b ≡ true) × (taken-count ws ≤ length list)
-    go false b c f e = absurd (omega arith)
-    go true false c f e = absurd (omega arith)
-    go true true true f e = absurd (omega arith)
-    go true true false f e = (refl, refl, f refl)
+-- the plain words of a block
+pub no-plain-words : (ws : List ℕ) (h e : ℕ) → block-refusal ws h 0 ≡ e → eqb e 0 ≡ false → PlainWords ws h [] ws
+no-plain-words ws h e same some = record { answered = rw (same, some); words = refl }
+
+pub plain-words : (ws : List ℕ) (h : ℕ) (xs : List ℕ) → block-refusal ws h 0 ≡ 0 → xs ≡ plain-words-in (block ws h) → PlainWords ws h xs ws
+plain-words ws h xs none e = record { answered = e ∙ rw none; words = refl }

@@ -6,5 +6,12 @@
 // outcomes that meet a promise are equal (proofs/Unique).
 
 pub mod allocate;
+pub mod ask;
 pub mod collect;
+mod fields;
+mod look;
 pub mod make;
+pub mod plain;
+mod put;
+pub mod references;
+mod rooms;

@@ -6,7 +6,7 @@ use mathlib.Core.Path.{_≡_, refl, sym, _∙_}
 use mathlib.Core.Bool.{true}
 use Rattle.model.specs.Sound.{sound}
 use Rattle.drawing.proofs.Outcomes.{refused}
-use Rattle.drawing.proofs.Refusals.{allocate-unsound, allocate-large, allocate-more-references}
+use Rattle.drawing.proofs.RefusalNumbers.{allocate-unsound, allocate-large, allocate-more-references}
 use Rattle.drawing.proofs.allocate.allocate.Statement.{statement}
 use Rattle.drawing.proofs.allocate.allocate.Tie as tie
 

@@ -5,7 +5,7 @@ use native.Mathlib.Omega.{arith}
 use mathlib.Core.Path.{_≡_, refl, sym, _∙_}
 use mathlib.Core.List.{List}
 use Rattle.model.specs.Calls.{collect-refusal}
-use Rattle.drawing.proofs.Refusals.{collect-else}
+use Rattle.drawing.proofs.RefusalNumbers.{collect-else}
 use Rattle.drawing.proofs.Collecting.{collect-refused, collect-live, traceable}
 use Rattle.drawing.proofs.collect.collect.Statement.{statement}
 use Rattle.drawing.proofs.collect.collect.Tie as tie

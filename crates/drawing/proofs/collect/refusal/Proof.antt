@@ -15,7 +15,7 @@ use Rattle.soundness.proofs.Facts.{Sized, sound-facts}
 use Rattle.taken.specs.Row.{TakenRow}
 use Rattle.taken.proofs.RowLaws.{row-count}
 use Rattle.drawing.proofs.Collecting.{roots-by-row}
-use Rattle.drawing.proofs.Refusals.{roots-right, collect-unsound, collect-bad-root, collect-short-list, collect-granted}
+use Rattle.drawing.proofs.RefusalNumbers.{roots-right, collect-unsound, collect-bad-root, collect-short-list, collect-granted}
 use Rattle.drawing.proofs.collect.refusal.Statement.{statement}
 use Rattle.drawing.proofs.collect.refusal.Tie as tie
 
