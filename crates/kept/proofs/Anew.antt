@@ -82,6 +82,7 @@ module _ (ws L : List ℕ) where
         own true true e = e
         own true false e = refl
         own false g e = refl
+
         onward : (u : ℕ) → eqb (class ws u) (class ws s) ≡ true → (group u && ltb (rank ws u) (rank ws s)) ≡ true
             → (eqb (class ws u) (class ws t) && (group u && ltb (rank ws u) (rank ws t))) ≡ true
         onward u c e =
@@ -140,8 +141,10 @@ module _ (ws L : List ℕ) where
             pick (yes l) d = absurd (omega (arith, before-less group s t sb gs same l))
             pick (no l) (yes g) = absurd (omega (arith, before-less group t s tb gt (sym same) g))
             pick (no l) (no g) = rank-apart ws sound s t (member s sb hs) (member t tb ht) same (omega arith)
+
         across : (a b : ℕ) → a < segments ws → stays-full ws L a ≡ true → stays-full ws L b ≡ false → class ws a ≡ class ws b → new-rank ws L a ≢ new-rank ws L b
         across a b ab fa fb same e = omega (arith, full-below a ab fa, rest-from b fb, ap (staying-full ws L) same)
+
         go : (f : Bool) → stays-full ws L s ≡ f → (g : Bool) → stays-full ws L t ≡ g → s ≡ t
         go true f true g = within (stays-full ws L) f g (sym (rank-full s f) ∙ e ∙ rank-full t g)
         go true f false g = absurd (across s t sb f g same e)

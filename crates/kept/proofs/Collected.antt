@@ -16,7 +16,7 @@ use Rattle.model.specs.Ways.{listed}
 use Rattle.model.specs.Layout.{handle, record-head}
 use Rattle.laws.proofs.Below.{length-words-below, word-words-below, length-lists-below, part-lists-below}
 use Rattle.laws.proofs.Splice.{part-append}
-use Rattle.bitmap.proofs.LevelLaws.{class-low, class-high}
+use Rattle.words.proofs.ClassLaws.{class-bounds}
 use Rattle.bitmap.proofs.RecordLaws.{record-length}
 use Rattle.soundness.proofs.Facts.{Sized}
 
@@ -78,8 +78,7 @@ module _ (ws L : List ℕ) (z : Sized ws) where
   pub collected-place : (i : ℕ) → is-class i ≡ true → word (collected ws L) (place-at i) ≡ new-place ws L i
   unfolding places
   collected-place i c =
-      let low : 3 ≤ i = class-low i c in
-      let high : i ≤ 12 = class-high i c in
+      let bounds : (3 ≤ i) × (i ≤ 12) = class-bounds i c in
       let at : i - 2 ≡ suc (i - 3) = omega arith in
       let back : i - 3 + 3 ≡ i = omega arith in
       let inside : i - 3 < 10 = omega arith in

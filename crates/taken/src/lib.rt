@@ -6,4 +6,6 @@
 // of ones.
 
 pub mod ask;
+pub mod gather;
+pub mod judge;
 pub mod row;

@@ -88,7 +88,7 @@ fn fill_segment(arena: &[u32], s: u32, row: &mut [u32; 4096])
     }
 }
 
-fn clear(row: &mut [u32; 4096])
+pub fn clear(row: &mut [u32; 4096])
     ensures { λ _. ⌜ length (now (row .exit)) ≡ 4096 ⌝ }
 {
     *row = [0; 4096];
