@@ -1,9 +1,9 @@
 -- A bare record has 68 words.
 -- Assumes nothing.
 use Prim.Native.Nat.{ℕ}
-use mathlib.Core.Path.{_≡_, ap, _∙_}
+use mathlib.Core.Path.{_≡_}
 use mathlib.Core.Bool.{Bool, true, false, cond}
-use mathlib.Core.List.{List, _∷_}
+use mathlib.Core.List.{_∷_}
 use lib.ListN.{length, replicate, length-replicate}
 use lib.Dec.{eqb}
 use Rattle.model.specs.Word.{field}

@@ -4,12 +4,12 @@
 use Prim.Native.Nat.{ℕ, zero, suc, _+_, _*_, _≤_, _<_}
 use mathlib.Core.Path.{_≡_, refl, sym, ap, ap₂, _∙_}
 use mathlib.Core.Logic.{_⊎_, inl, inr, _≢_}
-use mathlib.Core.List.{List, [], _∷_, _++_, append-assoc, append-nil}
+use mathlib.Core.List.{List, _++_, append-assoc, append-nil}
 use native.Mathlib.Omega.{arith}
 use native.Mathlib.Nat.{eq-or-lt-of-le, le-of-suc-le-suc, le-refl, zero-add, mul-suc, mul-le-mul-left}
 use native.Mathlib.Numerals.{add-one}
 use lib.ListN.{length, take, drop, length-append, length-drop, drop-of-length-le, take-append-drop, List·getD-append}
-use lib.Seq.{length-take-le, take-append-le, take-at, drop-at, drop-drop, take-take, take-all, drop-length, take-add, getD-take, drop-append-add}
+use lib.Seq.{length-take-le, take-at, drop-at, drop-drop, take-add, getD-take, drop-append-add}
 use Rattle.model.specs.Below.{lists-below}
 use Rattle.model.specs.Word.{word, part, put, field}
 use Rattle.model.specs.Layout.{record-at}

@@ -10,12 +10,6 @@ use Rattle.ranking.specs.Groups.{full, rest, any-rank, ranked-in, rank-b
 use borrow.Author.Needs.{needs}
 use Rattle.ranking.proofs.heads.new_rank.Statement.{statement}
 use Rattle.ranking.proofs.heads.new_rank.Tie as tie
-use Rattle.ranking.proofs.heads.new_rank.Reads as reads
-use Rattle.ranking.proofs.heads.new_rank.Lts as lts
-use Rattle.arena.proofs.class.Reads as class-reads
-use Rattle.arena.proofs.rank.Reads as rank-reads
-use Rattle.arena.proofs.wide.Reads as wide-reads
-use Rattle.ranking.proofs.groups.ranked_in.Reads as ranked-in-reads
 
 class-requires : tie.Need-class-requires
 class-requires c κs = search needs

@@ -5,10 +5,6 @@ use Rattle.ranking.specs.Groups.{place-for, place-by}
 use borrow.Author.Needs.{needs}
 use Rattle.ranking.proofs.places.new_place.Statement.{statement}
 use Rattle.ranking.proofs.places.new_place.Tie as tie
-use Rattle.ranking.proofs.places.new_place.Reads as reads
-use Rattle.ranking.proofs.places.new_place.Lts as lts
-use Rattle.ranking.proofs.groups.ranked_in.Reads as ranked-in-reads
-use Rattle.ranking.proofs.places.place_for.Reads as place-for-reads
 
 ranked-in-requires : tie.Need-ranked-in-requires
 ranked-in-requires c κs = search needs

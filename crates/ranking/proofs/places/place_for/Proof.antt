@@ -7,10 +7,6 @@ use Rattle.ranking.specs.Groups.{place-for}
 use borrow.Author.Needs.{needs}
 use Rattle.ranking.proofs.places.place_for.Statement.{statement}
 use Rattle.ranking.proofs.places.place_for.Tie as tie
-use Rattle.ranking.proofs.places.place_for.Reads as reads
-use Rattle.ranking.proofs.places.place_for.Lts as lts
-use Rattle.words.proofs.class.blocks.Reads as blocks-reads
-use Rattle.words.proofs.fields.place.Reads as place-reads
 
 place-requires : tie.Need-place-requires
 place-requires c κs = search needs

@@ -10,10 +10,6 @@ use Rattle.ranking.proofs.Bare.{bare-length}
 use borrow.Author.Needs.{needs}
 use Rattle.ranking.proofs.records.write_record.Statement.{statement}
 use Rattle.ranking.proofs.records.write_record.Tie as tie
-use Rattle.ranking.proofs.records.write_record.Reads as reads
-use Rattle.ranking.proofs.records.write_record.Lts as lts
-use Rattle.arena.proofs.wide.Reads as wide-reads
-use Rattle.ranking.proofs.records.bare_record.Reads as bare-record-reads
 
 wide-requires : tie.Need-wide-requires
 wide-requires c κs = search needs
