@@ -31,12 +31,13 @@ use Rattle.soundness.proofs.Taken.{TakenHandle, handle-facts}
 use Rattle.ways.proofs.Listed.{in-listed}
 use Rattle.ranking.specs.Anew.{TakenList}
 use Rattle.ranking.specs.Live.{Handles, Live}
-use Rattle.ranking.specs.Groups.{pool, Groups, head-by, Heads, Places}
+use Rattle.ranking.specs.Groups.{pool, Groups}
+use Rattle.ranking.specs.Heads.{head-by, Heads}
+use Rattle.ranking.specs.Places.{Places}
 use Rattle.ranking.specs.Records.{with-records, bare-record, Head}
 use Rattle.ranking.specs.Marks.{marked, Marks}
 use Rattle.ranking.proofs.GroupLaws.{lives-is, stays-is, rank-is, place-is}
-use Rattle.ranking.proofs.Bare.{bare-length}
-use Rattle.ranking.proofs.WithRecords.{with-length, with-segments, with-record, with-again, with-ext}
+use Rattle.ranking.proofs.RecordLaws.{bare-length, with-length, with-segments, with-record, with-again, with-ext}
 use Rattle.ranking.proofs.MarkLaws.{marked-pool, marked-used}
 
 -- ---- segments that stay

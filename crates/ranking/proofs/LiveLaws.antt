@@ -55,9 +55,9 @@ module _ (L : List ℕ) (j : ℕ) (l : j < length L) where
   -- a handle that stands there once is not listed before
   pub not-before : Distinct L → listed (take j L) (getD L j 0) ≡ false
   not-before once = not-passed (listed (take j L) (getD L j 0)) (λ t.
-    let i = listed-in (take j L) (getD L j 0) t in
-    let low : i .0 < j = omega (arith, length-take-le j L (omega arith)) in
-    once (i .0) j low l (sym (getD-take j L (i .0) 0 low) ∙ i .2))
+      let i = listed-in (take j L) (getD L j 0) t in
+      let low : i .0 < j = omega (arith, length-take-le j L (omega arith)) in
+      once (i .0) j low l (sym (getD-take j L (i .0) 0 low) ∙ i .2))
 
 -- ---- how many of a segment
 
@@ -96,7 +96,7 @@ module _ (L : List ℕ) (once : Distinct L) (j : ℕ) (l : j < length L) (some :
           omega (
             arith,
             count-below-ext 2048 (λ k. eqb h (handle s k) || before k) before
-            (λ k u. ap (λ (t : Bool). t || before k) (handle-elsewhere h s k some u f)),
+                (λ k u. ap (λ (t : Bool). t || before k) (handle-elsewhere h s k some u f)),
             ap one-if (ne-eqb (segment-of h) s f),
           )
 

@@ -13,7 +13,9 @@ use arena::wide;
 use words::class::blocks;
 
 pub const POOL: u32 = 0;
+
 pub const FULL: u32 = 1;
+
 pub const REST: u32 = 2;
 
 // The group of a segment of that class with so many listed blocks.

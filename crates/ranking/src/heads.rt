@@ -4,15 +4,16 @@ ghost use Prim.Native.Nat.{_<_, _≤_};
 ghost use Rattle.model.specs.Word.{word};
 ghost use Rattle.model.specs.View.{segments, class, rank};
 ghost use Rattle.arena.specs.Inside.{Segment};
-ghost use Rattle.ranking.specs.Groups.{Whole, rank-by, head-by, HeadOf, HeadsOf, Heads};
+ghost use Rattle.ranking.specs.Groups.{Whole};
+ghost use Rattle.ranking.specs.Heads.{rank-by, head-by, HeadOf, HeadsOf, Heads};
+use crate::groups::FULL;
+use crate::groups::POOL;
+use crate::groups::REST;
+use crate::groups::ranked_in;
 use arena::class;
 use arena::rank;
 use arena::segments;
 use arena::wide;
-use crate::groups::ranked_in;
-use crate::groups::FULL;
-use crate::groups::POOL;
-use crate::groups::REST;
 use words::fields::record_head;
 
 // "Full ones first, then the rest, each group in its former order."

@@ -18,12 +18,12 @@ use crate::places::new_places;
 use crate::places::write_places;
 use crate::records::write_records;
 
-pub mod live;
 pub mod groups;
 pub mod heads;
+pub mod live;
+pub mod marks;
 pub mod places;
 pub mod records;
-pub mod marks;
 
 // The list is that of a collection: handles of taken blocks, each once. New ranks come from the former ones,
 // so they are all computed before any is written.

@@ -2,11 +2,12 @@
 ghost use mathlib.Core.Path.{_≡_};
 ghost use Prim.Native.Nat.{_<_, _≤_};
 ghost use Rattle.model.specs.Word.{put};
-ghost use Rattle.ranking.specs.Groups.{Whole, PlaceFor, place-for, place-by, PlaceOf, Places, WritePlaces};
-use arena::wide;
-use crate::groups::ranked_in;
+ghost use Rattle.ranking.specs.Groups.{Whole};
+ghost use Rattle.ranking.specs.Places.{PlaceFor, place-for, place-by, PlaceOf, Places, WritePlaces};
 use crate::groups::FULL;
 use crate::groups::REST;
+use crate::groups::ranked_in;
+use arena::wide;
 use words::class::blocks;
 use words::fields::place;
 

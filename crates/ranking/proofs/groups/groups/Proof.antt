@@ -44,10 +44,12 @@ loop-less c = search needs
 loop-again : tie.Need-loop-again Inv-loop μ-loop
 loop-again c =
     let a = c .before .before .before .before .before .before .args in
-    let x = c .before .before .before .loop in
-    (omega arith, simp length-set (x .inv .1),
-    row-next (x .groups) (λ t. group-of (class (a .arena .now) t) (word (a .lives .now) t)) (x .s) (c .wide .result) (c .before .group-of .result) (c .wide .ensures)
-    (omega (arith, c .before .before .before .before .segments .ensures, c .before .before .before .before .before .before .pre .few)) (c .before .group-of .ensures) (x .inv .2))
+    let x = c .before .before .before .loop in (
+      omega arith,
+      simp length-set (x .inv .1),
+      row-next (x .groups) (λ t. group-of (class (a .arena .now) t) (word (a .lives .now) t)) (x .s) (c .wide .result) (c .before .group-of .result) (c .wide .ensures)
+          (omega (arith, c .before .before .before .before .segments .ensures, c .before .before .before .before .before .before .pre .few)) (c .before .group-of .ensures) (x .inv .2),
+    )
 
 returns : tie.Need-returns Inv-loop μ-loop
 returns c =

@@ -53,9 +53,10 @@ returns c =
     let a = c .before .before .before .before .args in
     let x = c .before .loop in
     let test : ℕ → Bool = ranks-in (a .arena .now) (a .groups .now) (a .i) (a .group) (a .limit) in
-    let all : x .t ≡ c .before .before .segments .result = omega arith in
-    (x .inv .1 ∙ ap (λ (n : ℕ). count-below n test) (all ∙ c .before .before .segments .ensures),
-    omega (arith, x .inv .1, count-below-le (x .t) test, c .before .before .segments .ensures, c .before .before .before .before .pre .few))
+    let all : x .t ≡ c .before .before .segments .result = omega arith in (
+      x .inv .1 ∙ ap (λ (n : ℕ). count-below n test) (all ∙ c .before .before .segments .ensures),
+      omega (arith, x .inv .1, count-below-le (x .t) test, c .before .before .segments .ensures, c .before .before .before .before .pre .few),
+    )
 
 pub ranked-in-spec : {M : Type 1} → statement M
 ranked-in-spec =

@@ -33,7 +33,7 @@ returns-2 c =
     let a = c .before .before .before .before .before .before .args in
     let e : eqb (class (a .arena .now) (a .t)) (a .i) ≡ true = eq-eqb _ _ (sym (c .before .before .before .before .class .ensures) ∙ c .before .before .before .if1 .left) in
     let f : eqb (word (a .groups .now) (a .t)) (a .group) ≡ false =
-        ne-eqb _ _ (λ q. c .if2 .taken (ap (word (a .groups .now)) (c .before .before .wide .ensures) ∙ q)) in
+    ne-eqb _ _ (λ q. c .if2 .taken (ap (word (a .groups .now)) (c .before .before .wide .ensures) ∙ q)) in
     rw (e, f)
 
 rank-requires : tie.Need-rank-requires
@@ -45,7 +45,7 @@ returns-3 c =
     let a = d .before .before .before .before .before .args in
     let e : eqb (class (a .arena .now) (a .t)) (a .i) ≡ true = eq-eqb _ _ (sym (d .before .before .before .class .ensures) ∙ d .before .before .if1 .left) in
     let f : eqb (word (a .groups .now) (a .t)) (a .group) ≡ true =
-        eq-eqb _ _ (sym (ap (word (a .groups .now)) (d .before .wide .ensures)) ∙ c .before .before .if2 .left) in
+    eq-eqb _ _ (sym (ap (word (a .groups .now)) (d .before .wide .ensures)) ∙ c .before .before .if2 .left) in
     let g : ltb (rank (a .arena .now) (a .t)) (a .limit) ≡ true = lt-ltb (rank (a .arena .now) (a .t)) (a .limit) (omega (arith, c .before .rank .ensures, c .if3 .taken)) in
     rw (e, f, g)
 
@@ -55,7 +55,7 @@ returns-4 c =
     let a = d .before .before .before .before .before .args in
     let e : eqb (class (a .arena .now) (a .t)) (a .i) ≡ true = eq-eqb _ _ (sym (d .before .before .before .class .ensures) ∙ d .before .before .if1 .left) in
     let f : eqb (word (a .groups .now) (a .t)) (a .group) ≡ true =
-        eq-eqb _ _ (sym (ap (word (a .groups .now)) (d .before .wide .ensures)) ∙ c .before .before .if2 .left) in
+    eq-eqb _ _ (sym (ap (word (a .groups .now)) (d .before .wide .ensures)) ∙ c .before .before .if2 .left) in
     let g : ltb (rank (a .arena .now) (a .t)) (a .limit) ≡ false = le-ltb (rank (a .arena .now) (a .t)) (a .limit) (omega (arith, c .before .rank .ensures, c .if3 .left)) in
     rw (e, f, g)
 

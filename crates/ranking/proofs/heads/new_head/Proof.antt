@@ -5,7 +5,8 @@ use native.Mathlib.Omega.{arith}
 use lib.Dec.{eqb}
 use borrow.Author.Tests.{eq-eqb, ne-eqb}
 use Rattle.model.specs.Word.{word}
-use Rattle.ranking.specs.Groups.{pool, head-by}
+use Rattle.ranking.specs.Groups.{pool}
+use Rattle.ranking.specs.Heads.{head-by}
 use borrow.Author.Needs.{needs}
 use Rattle.ranking.proofs.heads.new_head.Statement.{statement}
 use Rattle.ranking.proofs.heads.new_head.Tie as tie
@@ -25,7 +26,7 @@ returns c =
     let d = c .before .before in
     let a = d .before .before .args in
     let e : eqb (word (a .groups .now) (a .s)) pool ≡ true =
-        eq-eqb (word (a .groups .now) (a .s)) pool (ap (word (a .groups .now)) (sym (d .wide .ensures)) ∙ c .if1 .taken) in
+    eq-eqb (word (a .groups .now) (a .s)) pool (ap (word (a .groups .now)) (sym (d .wide .ensures)) ∙ c .if1 .taken) in
     rw e
 
 class-requires : tie.Need-class-requires
@@ -56,7 +57,7 @@ returns-2 c =
     let d = c .before .before .before .before .before .before .before in
     let a = d .before .before .args in
     let e : eqb (word (a .groups .now) (a .s)) pool ≡ false =
-        ne-eqb (word (a .groups .now) (a .s)) pool (λ q. c .before .before .before .before .before .if1 .left (ap (word (a .groups .now)) (d .wide .ensures) ∙ q)) in
+    ne-eqb (word (a .groups .now) (a .s)) pool (λ q. c .before .before .before .before .before .if1 .left (ap (word (a .groups .now)) (d .wide .ensures) ∙ q)) in
     let count = ap (word (a .lives .now)) (c .before .before .wide2 .ensures) in
     c .record-head .ensures ∙ rw (e, c .before .before .before .before .class .ensures, c .before .before .before .new-rank .ensures .0, count)
 

@@ -5,7 +5,7 @@ use mathlib.Core.Path.{_≡_, refl}
 use native.Mathlib.Omega.{arith}
 use lib.ListN.{length, length-set}
 use Rattle.model.specs.Word.{word}
-use Rattle.ranking.specs.Groups.{head-by}
+use Rattle.ranking.specs.Heads.{head-by}
 use Rattle.ranking.proofs.Rows.{row-next}
 use Rattle.ranking.proofs.heads.new_heads.Statement.{statement}
 use Rattle.ranking.proofs.heads.new_heads.Tie as tie
@@ -45,10 +45,12 @@ loop-less c = search needs
 loop-again : tie.Need-loop-again Inv-loop μ-loop
 loop-again c =
     let a = c .before .before .before .before .before .before .args in
-    let x = c .before .before .before .loop in
-    (omega arith, simp length-set (x .inv .1),
-    row-next (x .heads) (head-by (a .arena .now) (a .groups .now) (a .lives .now)) (x .s) (c .wide .result) (c .before .new-head .result) (c .wide .ensures)
-    (omega (arith, c .before .before .before .before .segments .ensures, c .before .before .before .before .before .before .pre .few)) (c .before .new-head .ensures) (x .inv .2))
+    let x = c .before .before .before .loop in (
+      omega arith,
+      simp length-set (x .inv .1),
+      row-next (x .heads) (head-by (a .arena .now) (a .groups .now) (a .lives .now)) (x .s) (c .wide .result) (c .before .new-head .result) (c .wide .ensures)
+          (omega (arith, c .before .before .before .before .segments .ensures, c .before .before .before .before .before .before .pre .few)) (c .before .new-head .ensures) (x .inv .2),
+    )
 
 returns : tie.Need-returns Inv-loop μ-loop
 returns c =

@@ -6,7 +6,8 @@ use native.Mathlib.Omega.{arith}
 use lib.Dec.{eqb}
 use borrow.Author.Tests.{eq-eqb, ne-eqb}
 use Rattle.model.specs.Word.{word}
-use Rattle.ranking.specs.Groups.{full, rest, any-rank, ranked-in, rank-by}
+use Rattle.ranking.specs.Groups.{full, rest, any-rank, ranked-in}
+use Rattle.ranking.specs.Heads.{rank-by}
 use borrow.Author.Needs.{needs}
 use Rattle.ranking.proofs.heads.new_rank.Statement.{statement}
 use Rattle.ranking.proofs.heads.new_rank.Tie as tie
@@ -35,10 +36,11 @@ returns c =
     let d = c .before .before .before in
     let a = d .before .before .before .before .args in
     let e : eqb (word (a .groups .now) (a .s)) full ≡ true =
-        eq-eqb (word (a .groups .now) (a .s)) full (ap (word (a .groups .now)) (sym (d .wide .ensures)) ∙ c .before .if1 .taken) in
-    (c .ranked-in .ensures .0
-    ∙ rw e (ap₂ (λ (i q : ℕ). ranked-in (a .arena .now) (a .groups .now) i full q) (d .before .before .class .ensures) (d .before .rank .ensures)),
-    omega (arith, c .ranked-in .ensures .1))
+    eq-eqb (word (a .groups .now) (a .s)) full (ap (word (a .groups .now)) (sym (d .wide .ensures)) ∙ c .before .if1 .taken) in (
+      c .ranked-in .ensures .0
+          ∙ rw e (ap₂ (λ (i q : ℕ). ranked-in (a .arena .now) (a .groups .now) i full q) (d .before .before .class .ensures) (d .before .rank .ensures)),
+      omega (arith, c .ranked-in .ensures .1),
+    )
 
 ranked-in-requires-2 : tie.Need-ranked-in-requires-2
 ranked-in-requires-2 c κs = search needs
@@ -55,10 +57,11 @@ returns-2 c =
     let d = c .before .before .before .before in
     let a = d .before .before .before .before .args in
     let e : eqb (word (a .groups .now) (a .s)) full ≡ false =
-        ne-eqb (word (a .groups .now) (a .s)) full (λ q. c .before .before .if1 .left (ap (word (a .groups .now)) (d .wide .ensures) ∙ q)) in
-    (ap₂ _+_ (c .before .ranked-in2 .ensures .0) (c .ranked-in3 .ensures .0)
-    ∙ rw e (ap₂ (λ (i q : ℕ). ranked-in (a .arena .now) (a .groups .now) i full any-rank + ranked-in (a .arena .now) (a .groups .now) i rest q) (d .before .before .class .ensures) (d .before .rank .ensures)),
-    omega (arith, c .before .ranked-in2 .ensures .1, c .ranked-in3 .ensures .1))
+    ne-eqb (word (a .groups .now) (a .s)) full (λ q. c .before .before .if1 .left (ap (word (a .groups .now)) (d .wide .ensures) ∙ q)) in (
+      ap₂ _+_ (c .before .ranked-in2 .ensures .0) (c .ranked-in3 .ensures .0)
+          ∙ rw e (ap₂ (λ (i q : ℕ). ranked-in (a .arena .now) (a .groups .now) i full any-rank + ranked-in (a .arena .now) (a .groups .now) i rest q) (d .before .before .class .ensures) (d .before .rank .ensures)),
+      omega (arith, c .before .ranked-in2 .ensures .1, c .ranked-in3 .ensures .1),
+    )
 
 pub new-rank-spec : {M : Type 1} → statement M
 new-rank-spec =

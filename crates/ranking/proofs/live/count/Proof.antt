@@ -48,10 +48,12 @@ loop-again c =
     let h = c .before .before .before .before .before .before .pre in
     let list = c .before .before .before .before .before .before .args .list .now in
     let x = c .before .before .before .before .loop in
-    let l : x .j < length list = omega arith in
-    (omega arith, ap length (c .add .ensures) ∙ simp length-set (x .inv .1),
-    λ s u. ap (λ (ws : List ℕ). word ws s) (c .add .ensures)
-    ∙ counted-next list (h .once) (x .j) l (h .some (x .j) l) (x .lives) (x .inv .1) (h .within (x .j) l) (x .inv .2) s u)
+    let l : x .j < length list = omega arith in (
+      omega arith,
+      ap length (c .add .ensures) ∙ simp length-set (x .inv .1),
+      λ s u. ap (λ (ws : List ℕ). word ws s) (c .add .ensures)
+          ∙ counted-next list (h .once) (x .j) l (h .some (x .j) l) (x .lives) (x .inv .1) (h .within (x .j) l) (x .inv .2) s u,
+    )
 
 returns : tie.Need-returns Inv-loop μ-loop
 returns c =

@@ -92,9 +92,9 @@ returns c =
     let at : ℕ = 11 + 68 * w .wide .result in
     let with-bit : List ℕ → ℕ → ℕ → List ℕ = λ rec i k. word rec 0 ∷ level-rows i (λ j. eqb j k || bit-in rec j) in
     let new : c .before .before .set-bit .last .0 ≡ marked-one (a .arena .now) s (index-of (a .h)) =
-        c .before .before .set-bit .ensures
-        ∙ ap (λ (rec : List ℕ). with-bit rec (w .before .class .result) (w .before .before .before .index .result .0)) (lent w)
-        ∙ ap₂ (with-bit (record-of (a .arena .now) s)) (class-is w) (w .before .before .before .index .ensures) in
+    c .before .before .set-bit .ensures
+    ∙ ap (λ (rec : List ℕ). with-bit rec (w .before .class .result) (w .before .before .before .index .result .0)) (lent w)
+    ∙ ap₂ (with-bit (record-of (a .arena .now) s)) (class-is w) (w .before .before .before .index .ensures) in
     let size : at + 68 - at ≡ 68 = omega arith in
     ap (putMid at (at + 68 - at) (a .arena .now)) new
     ∙ ap₂ (λ (o n : ℕ). putMid o n (a .arena .now) (marked-one (a .arena .now) s (index-of (a .h)))) (ap (λ (t : ℕ). 11 + 68 * t) (segment-is w)) size

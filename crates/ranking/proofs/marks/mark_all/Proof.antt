@@ -50,10 +50,12 @@ loop-again c =
     let d = c .before .before .before .before .before in
     let a = d .before .before .before .before .args in
     let x = d .before .loop in
-    let h : ℕ = getD (a .list .now) (x .j) 0 in
-    (omega arith, c .before .before .mark .kept .0 ∙ x .inv .1,
-    c .before .before .mark .ensures ∙ ap (λ (ws : List ℕ). put ws (record-at (segment-of h)) (marked-one ws (segment-of h) (index-of h))) (x .inv .2)
-    ∙ marks-next (a .arena .now) (a .list .now) (d .before .before .before .before .pre) (x .j) (omega arith))
+    let h : ℕ = getD (a .list .now) (x .j) 0 in (
+      omega arith,
+      c .before .before .mark .kept .0 ∙ x .inv .1,
+      c .before .before .mark .ensures ∙ ap (λ (ws : List ℕ). put ws (record-at (segment-of h)) (marked-one ws (segment-of h) (index-of h))) (x .inv .2)
+          ∙ marks-next (a .arena .now) (a .list .now) (d .before .before .before .before .pre) (x .j) (omega arith),
+    )
 
 same-length : tie.Need-same-length Inv-loop μ-loop
 same-length c = search needs

@@ -1,7 +1,7 @@
 -- `ranking::places::new_place` meets its contract. Assumes nothing.
 use Prim.Native.Nat.{ℕ, _+_}
 use mathlib.Core.Path.{ap₂, _∙_}
-use Rattle.ranking.specs.Groups.{place-for, place-by}
+use Rattle.ranking.specs.Places.{place-for, place-by}
 use borrow.Author.Needs.{needs}
 use Rattle.ranking.proofs.places.new_place.Statement.{statement}
 use Rattle.ranking.proofs.places.new_place.Tie as tie

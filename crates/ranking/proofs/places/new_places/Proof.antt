@@ -5,7 +5,7 @@ use mathlib.Core.Path.{_≡_, refl}
 use native.Mathlib.Omega.{arith}
 use lib.ListN.{length, length-set}
 use Rattle.model.specs.Word.{word}
-use Rattle.ranking.specs.Groups.{place-by}
+use Rattle.ranking.specs.Places.{place-by}
 use Rattle.ranking.proofs.Rows.{row-next}
 use Rattle.ranking.proofs.places.new_places.Statement.{statement}
 use Rattle.ranking.proofs.places.new_places.Tie as tie
@@ -43,10 +43,12 @@ loop-less c = search needs
 loop-again : tie.Need-loop-again Inv-loop μ-loop
 loop-again c =
     let a = c .before .before .before .before .before .args in
-    let x = c .before .before .before .loop in
-    (omega arith, simp length-set (x .inv .1),
-    row-next (x .places) (λ t. place-by (a .arena .now) (a .groups .now) (t + 3)) (x .c) (c .wide .result) (c .before .new-place .result) (c .wide .ensures)
-    (omega arith) (c .before .new-place .ensures) (x .inv .2))
+    let x = c .before .before .before .loop in (
+      omega arith,
+      simp length-set (x .inv .1),
+      row-next (x .places) (λ t. place-by (a .arena .now) (a .groups .now) (t + 3)) (x .c) (c .wide .result) (c .before .new-place .result) (c .wide .ensures)
+          (omega arith) (c .before .new-place .ensures) (x .inv .2),
+    )
 
 returns : tie.Need-returns Inv-loop μ-loop
 returns c =

@@ -3,7 +3,7 @@ use mathlib.Core.Path.{_∙_}
 use native.Mathlib.Omega.{arith}
 use borrow.Author.Tests.{eq-eqb, ne-eqb, lt-ltb, le-ltb}
 use Rattle.words.proofs.ClassLaws.{blocks-most, bounds-class}
-use Rattle.ranking.specs.Groups.{place-for}
+use Rattle.ranking.specs.Places.{place-for}
 use borrow.Author.Needs.{needs}
 use Rattle.ranking.proofs.places.place_for.Statement.{statement}
 use Rattle.ranking.proofs.places.place_for.Tie as tie

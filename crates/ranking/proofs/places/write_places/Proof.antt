@@ -46,10 +46,12 @@ loop-again c =
     let a = c .before .before .before .args in
     let x = c .before .before .loop in
     let p = c .before .before .before .pre in
-    let at : x .c + 1 ≡ 1 + x .c = omega arith in
-    (omega arith, simp length-set (x .inv .1),
-    ap₂ (λ (ws : List ℕ) (k : ℕ). set ws k (word (a .places .now) (x .c))) (x .inv .2) at
-    ∙ paste-suc (a .arena .now) 1 (a .places .now) (x .c) 0 (omega (arith, p .room)) (omega (arith, p .ten)) ∙ rw add-one)
+    let at : x .c + 1 ≡ 1 + x .c = omega arith in (
+      omega arith,
+      simp length-set (x .inv .1),
+      ap₂ (λ (ws : List ℕ) (k : ℕ). set ws k (word (a .places .now) (x .c))) (x .inv .2) at
+          ∙ paste-suc (a .arena .now) 1 (a .places .now) (x .c) 0 (omega (arith, p .room)) (omega (arith, p .ten)) ∙ rw add-one,
+    )
 
 same-length : tie.Need-same-length Inv-loop μ-loop
 same-length c = search needs

@@ -6,7 +6,7 @@ use borrow.Rule.Slice.PartMut.{putMid}
 use Rattle.model.specs.Layout.{record-at}
 use Rattle.laws.proofs.Splice.{put-mid}
 use Rattle.ranking.specs.Records.{bare-record}
-use Rattle.ranking.proofs.Bare.{bare-length}
+use Rattle.ranking.proofs.RecordLaws.{bare-length}
 use borrow.Author.Needs.{needs}
 use Rattle.ranking.proofs.records.write_record.Statement.{statement}
 use Rattle.ranking.proofs.records.write_record.Tie as tie

@@ -9,8 +9,7 @@ use Rattle.model.specs.Word.{word, put}
 use Rattle.model.specs.Layout.{record-at}
 use Rattle.model.specs.View.{segments}
 use Rattle.ranking.specs.Records.{with-records, bare-record, Head}
-use Rattle.ranking.proofs.Bare.{bare-length}
-use Rattle.ranking.proofs.WithRecords.{with-none, with-next, with-segments}
+use Rattle.ranking.proofs.RecordLaws.{bare-length, with-none, with-next, with-segments}
 use Rattle.ranking.proofs.records.write_records.Statement.{statement}
 use Rattle.ranking.proofs.records.write_records.Tie as tie
 
@@ -76,9 +75,9 @@ loop-again c =
     let bare : ℕ → List ℕ = λ t. bare-record (word (a .heads .now) t) in
     let inside : record-at (x .s) ≤ length (a .arena .now) = omega (arith, d .before .before .segments .ensures, p .long) in
     let next : c .before .before .write-record .last .0 ≡ with-records (a .arena .now) (x .s + 1) bare =
-        c .before .before .write-record .ensures
-        ∙ ap₂ (λ (ws : List ℕ) (o : ℕ). put ws (record-at (x .s)) (bare o)) (x .inv .2) (c .before .before .before .before .wide .ensures)
-        ∙ with-next (a .arena .now) (x .s) bare (λ k _. bare-length (word (a .heads .now) k)) inside (bare-length (word (a .heads .now) (x .s))) in
+    c .before .before .write-record .ensures
+    ∙ ap₂ (λ (ws : List ℕ) (o : ℕ). put ws (record-at (x .s)) (bare o)) (x .inv .2) (c .before .before .before .before .wide .ensures)
+    ∙ with-next (a .arena .now) (x .s) bare (λ k _. bare-length (word (a .heads .now) k)) inside (bare-length (word (a .heads .now) (x .s))) in
     (omega arith, c .before .before .write-record .kept .0 ∙ x .inv .1, next)
 
 same-length : tie.Need-same-length Inv-loop μ-loop
