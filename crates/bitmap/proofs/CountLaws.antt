@@ -1,4 +1,4 @@
--- The number of set bits below a class's blocks: the ones of a word's first bits, or of all its words.
+-- The set bits of a class's blocks: those among the first bits of one word, or all of whole words.
 -- Assumes nothing.
 use Prim.Native.Nat.{ℕ, _+_, _*_, _/_, _%_, _^_, _≤_, _<_}
 use native.Mathlib.Omega.{arith}
@@ -17,15 +17,16 @@ use Rattle.model.specs.View.{bit-in}
 use Rattle.laws.proofs.Below.{count-below-ext, count-below-product, sum-below-ext}
 use Rattle.laws.proofs.Bits.{ones-mod, ones-count}
 use Rattle.laws.proofs.Splice.{length-part, word-part}
-use Rattle.bitmap.proofs.LevelLaws.{at-class, or-right}
+use Rattle.words.proofs.ClassLaws.{class-rule}
+use Rattle.bitmap.proofs.LevelLaws.{or-right}
 
--- a class of 32 blocks or more has whole words of them, at most 64
+-- a class of 32 blocks or more fills whole words with them
 pub whole-words : (i : ℕ) → is-class i ≡ true → 32 ≤ blocks i → blocks i ≡ blocks i / 32 * 32
 unfolding all-below
 whole-words i h many =
     eqb-true _ _
     (or-right (ltb (blocks i) 32) (eqb (blocks i) (blocks i / 32 * 32))
-    (at-class (λ i. ltb (blocks i) 32 || eqb (blocks i) (blocks i / 32 * 32)) refl i h) (le-ltb _ _ many))
+    (class-rule (λ i. ltb (blocks i) 32 || eqb (blocks i) (blocks i / 32 * 32)) refl i h) (le-ltb _ _ many))
 
 -- the bits of one word
 pub count-in-word : (rec : List ℕ) (n : ℕ) → n < 32 → count-below 32 (bit (word rec 1 % 2 ^ n)) ≡ count-below n (bit-in rec)

@@ -40,7 +40,7 @@ padded-length i l rec = go (ltb 0 (level-words i l))
     go true = length-set rec _ _
     go false = refl
 
-module _ (i l : ℕ) (rec : List ℕ) (class : is-class i ≡ true) (l<3 : l < 3) (long : length rec ≡ 68) where
+module _ (i l : ℕ) (rec : List ℕ) (class : is-class i ≡ true) (l<3 : l < 3) where
   -- every place but that of the last used word keeps its word
   padded-else : (o : ℕ) → (0 < level-words i l → o ≢ level-at l + (level-words i l - 1)) → word (padded-level i l rec) o ≡ word rec o
   padded-else o apart = go (ltb 0 (level-words i l)) refl
@@ -61,8 +61,9 @@ module _ (i l : ℕ) (rec : List ℕ) (class : is-class i ≡ true) (l<3 : l < 3
       go u (no h) = omega (arith, levels-apart l m (level-words i l - 1) j (omega arith) m<3 (omega (arith, words-room i l class l<3)) r)
 
   -- a level of zeros becomes an empty level
-  padded-zeros : (j : ℕ) → j < level-room l → word rec (level-at l + j) ≡ 0 → word (padded-level i l rec) (level-at l + j) ≡ empty-level-word i l j
-  padded-zeros j r zeros = go (eqb (j + 1) (level-words i l)) refl
+  padded-zeros : (j : ℕ) → length rec ≡ 68 → j < level-room l → word rec (level-at l + j) ≡ 0
+      → word (padded-level i l rec) (level-at l + j) ≡ empty-level-word i l j
+  padded-zeros j long r zeros = go (eqb (j + 1) (level-words i l)) refl
     where
       go : (last : Bool) → eqb (j + 1) (level-words i l) ≡ last
           → word (padded-level i l rec) (level-at l + j) ≡ cond last (padding-word (level-end i l)) 0
@@ -87,9 +88,6 @@ module _ (i head : ℕ) (class : is-class i ≡ true) where
   abbrev pad-2 : List ℕ
   pad-2 = padded-level i 2 pad-1
 
-  blank-long : length blank ≡ 68
-  blank-long = refl
-
   blank-zeros : (l j : ℕ) → l < 3 → j < level-room l → word blank (level-at l + j) ≡ 0
   blank-zeros l j h r = go (level-at l + j) (level-inside l j h r .0) (level-inside l j h r .1)
     where
@@ -98,7 +96,7 @@ module _ (i head : ℕ) (class : is-class i ≡ true) where
       go (suc o) low high = getD-replicate 67 o 0 0 (omega arith)
 
   long-0 : length pad-0 ≡ 68
-  long-0 = padded-length i 0 blank ∙ blank-long
+  long-0 = padded-length i 0 blank
 
   long-1 : length pad-1 ≡ 68
   long-1 = padded-length i 1 pad-0 ∙ long-0
@@ -106,20 +104,20 @@ module _ (i head : ℕ) (class : is-class i ≡ true) where
   pub fresh-is : pad-2 ≡ head ∷ level-rows i (λ k. false)
   fresh-is =
       record-is pad-2 head i (λ k. false) (padded-length i 2 pad-1 ∙ long-1)
-      (padded-head i 2 pad-1 class (omega arith) long-1 ∙ padded-head i 1 pad-0 class (omega arith) long-0 ∙ padded-head i 0 blank class (omega arith) blank-long)
+      (padded-head i 2 pad-1 class (omega arith) ∙ padded-head i 1 pad-0 class (omega arith) ∙ padded-head i 0 blank class (omega arith))
       (λ l h j r. at l h j r ∙ sym (empty-word i l j class h r))
     where
       at : (l : ℕ) → l < 3 → (j : ℕ) → j < level-room l → word pad-2 (level-at l + j) ≡ empty-level-word i l j
       at zero h j r =
-          padded-other-level i 2 pad-1 class (omega arith) long-1 0 j h (omega arith) r
-          ∙ padded-other-level i 1 pad-0 class (omega arith) long-0 0 j h (omega arith) r
-          ∙ padded-zeros i 0 blank class h blank-long j r (blank-zeros 0 j h r)
+          padded-other-level i 2 pad-1 class (omega arith) 0 j h (omega arith) r
+          ∙ padded-other-level i 1 pad-0 class (omega arith) 0 j h (omega arith) r
+          ∙ padded-zeros i 0 blank class h j refl r (blank-zeros 0 j h r)
       at (suc zero) h j r =
-          padded-other-level i 2 pad-1 class (omega arith) long-1 1 j h (omega arith) r
-          ∙ padded-zeros i 1 pad-0 class h long-0 j r
-          (padded-other-level i 0 blank class (omega arith) blank-long 1 j h (omega arith) r ∙ blank-zeros 1 j h r)
+          padded-other-level i 2 pad-1 class (omega arith) 1 j h (omega arith) r
+          ∙ padded-zeros i 1 pad-0 class h j long-0 r
+          (padded-other-level i 0 blank class (omega arith) 1 j h (omega arith) r ∙ blank-zeros 1 j h r)
       at (suc (suc zero)) h j r =
-          padded-zeros i 2 pad-1 class h long-1 j r
-          (padded-other-level i 1 pad-0 class (omega arith) long-0 2 j h (omega arith) r
-          ∙ padded-other-level i 0 blank class (omega arith) blank-long 2 j h (omega arith) r ∙ blank-zeros 2 j h r)
+          padded-zeros i 2 pad-1 class h j long-1 r
+          (padded-other-level i 1 pad-0 class (omega arith) 2 j h (omega arith) r
+          ∙ padded-other-level i 0 blank class (omega arith) 2 j h (omega arith) r ∙ blank-zeros 2 j h r)
       at (suc (suc (suc l))) h j r = absurd (omega arith)

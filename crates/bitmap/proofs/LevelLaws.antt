@@ -1,11 +1,11 @@
 -- Laws of the levels of a record: of which words they consist, which bits these have, and that class and level-0 bits determine them all.
 -- Assumes nothing.
-use Prim.Native.Nat.{ℕ, zero, suc, _+_, _-_, _*_, _/_, _%_, _^_, _≤_, _<_}
+use Prim.Native.Nat.{ℕ, zero, suc, _+_, _*_, _/_, _%_, _^_, _≤_, _<_}
 use native.Mathlib.Omega.{arith}
 use native.Mathlib.Decide.{le-ind}
 use mathlib.Core.Path.{_≡_, refl, sym, ap, ap₂, _∙_}
 use mathlib.Core.Logic.{_≢_}
-use mathlib.Core.Bool.{Bool, true, false, cond, _&&_, _||_, or-true}
+use mathlib.Core.Bool.{Bool, true, false, cond, _||_, or-true}
 use lib.ListN.{set}
 use lib.Dec.{eqb, leb, ltb}
 use borrow.Author.Tests.{lt-ltb, le-ltb, lt-leb, ltb-true, leb-true, leb-false, eq-eqb, ne-eqb, eqb-true, eqb-false}
@@ -15,36 +15,16 @@ use Rattle.model.specs.Class.{is-class, every-class, level-words, level-end, le
 use Rattle.model.specs.Layout.{level-at, level-room, padded-word, level-word}
 use Rattle.laws.proofs.Below.{all-below-at}
 use Rattle.laws.proofs.Bits.{bit-word-of-bits, word-of-bits-lt, word-of-bits-ext}
+use Rattle.words.proofs.ClassLaws.{class-rule}
 
 -- ---- the ten classes: a test that is computed for all of them, at each of three levels, holds at each
-
-and-left : (a b : Bool) → (a && b) ≡ true → a ≡ true
-and-left true b e = refl
-and-left false b e = e
-
-and-right : (a b : Bool) → (a && b) ≡ true → b ≡ true
-and-right true b e = e
-and-right false b e = absurd (let z : _≡_ {A = ℕ} 0 1 = cc in omega arith)
 
 pub or-right : (a b : Bool) → (a || b) ≡ true → a ≡ false → b ≡ true
 or-right true b e f = absurd (let z : _≡_ {A = ℕ} 0 1 = cc in omega arith)
 or-right false b e f = e
 
-pub class-low : (i : ℕ) → is-class i ≡ true → 3 ≤ i
-class-low i h = leb-true 3 i (and-left (leb 3 i) (leb i 12) h)
-
-pub class-high : (i : ℕ) → is-class i ≡ true → i ≤ 12
-class-high i h = leb-true i 12 (and-right (leb 3 i) (leb i 12) h)
-
-pub at-class : (p : ℕ → Bool) → every-class p ≡ true → (i : ℕ) → is-class i ≡ true → p i ≡ true
-at-class p t i h =
-    let low : 3 ≤ i = class-low i h in
-    let high : i ≤ 12 = class-high i h in
-    let back : i - 3 + 3 ≡ i = omega arith in
-    rw back at (all-below-at 10 (λ c. p (c + 3)) t (i - 3) (omega arith))
-
 pub at-level : (p : ℕ → ℕ → Bool) → every-class (λ i. all-below 3 (p i)) ≡ true → (i l : ℕ) → is-class i ≡ true → l < 3 → p i l ≡ true
-at-level p t i l h m = all-below-at 3 (p i) (at-class (λ i. all-below 3 (p i)) t i h) l m
+at-level p t i l h m = all-below-at 3 (p i) (class-rule (λ i. all-below 3 (p i)) t i h) l m
 
 -- the words of a level have room
 pub words-room : (i l : ℕ) → is-class i ≡ true → l < 3 → level-words i l ≤ level-room l
@@ -80,17 +60,17 @@ words-next i l h m u =
 -- a class uses one to three levels: those below that number, and no other
 pub levels-le : (i : ℕ) → is-class i ≡ true → levels i ≤ 3
 unfolding all-below count-below level-words
-levels-le i h = leb-true _ _ (at-class (λ i. leb (levels i) 3) refl i h)
+levels-le i h = leb-true _ _ (class-rule (λ i. leb (levels i) 3) refl i h)
 
 pub levels-pos : (i : ℕ) → is-class i ≡ true → 0 < levels i
 unfolding all-below count-below level-words
-levels-pos i h = ltb-true _ _ (at-class (λ i. ltb 0 (levels i)) refl i h)
+levels-pos i h = ltb-true _ _ (class-rule (λ i. ltb 0 (levels i)) refl i h)
 
 pub used-level : (i l : ℕ) → is-class i ≡ true → l < levels i → 0 < level-words i l
 unfolding all-below count-below level-words
 used-level i l h u =
     ltb-true _ _
-    (all-below-at (levels i) (λ l. ltb 0 (level-words i l)) (at-class (λ i. all-below (levels i) (λ l. ltb 0 (level-words i l))) refl i h) l u)
+    (all-below-at (levels i) (λ l. ltb 0 (level-words i l)) (class-rule (λ i. all-below (levels i) (λ l. ltb 0 (level-words i l))) refl i h) l u)
 
 pub unused-level : (i l : ℕ) → is-class i ≡ true → l ≤ 3 → levels i ≤ l → level-words i l ≡ 0
 unfolding all-below count-below level-words
@@ -98,13 +78,13 @@ unused-level i l h three u =
     eqb-true _ _
     (or-right (ltb l (levels i)) (eqb (level-words i l) 0)
     (all-below-at 4 (λ l. ltb l (levels i) || eqb (level-words i l) 0)
-    (at-class (λ i. all-below 4 (λ l. ltb l (levels i) || eqb (level-words i l) 0)) refl i h) l (omega arith))
+    (class-rule (λ i. all-below 4 (λ l. ltb l (levels i) || eqb (level-words i l) 0)) refl i h) l (omega arith))
     (le-ltb _ _ u))
 
 -- how many, class by class
 pub class-levels : (i : ℕ) → is-class i ≡ true → levels i ≡ cond (eqb i 3) 3 (cond (ltb i 9) 2 1)
 unfolding all-below count-below level-words
-class-levels i h = eqb-true _ _ (at-class (λ i. eqb (levels i) (cond (eqb i 3) 3 (cond (ltb i 9) 2 1))) refl i h)
+class-levels i h = eqb-true _ _ (class-rule (λ i. eqb (levels i) (cond (eqb i 3) 3 (cond (ltb i 9) 2 1))) refl i h)
 
 -- two tests of equality agree
 eqb-iff : (a b c d : ℕ) → (a ≡ b → c ≡ d) → (c ≡ d → a ≡ b) → eqb a b ≡ eqb c d

@@ -7,9 +7,9 @@ ghost use Rattle.model.specs.Word.{word, bit};
 ghost use Rattle.model.specs.Class.{blocks};
 ghost use Rattle.model.specs.View.{bit-in};
 ghost use Rattle.bitmap.specs.Tree.{OfClass};
-use crate::levels::wide;
 use words::bits::ones;
 use words::class::blocks;
+use words::slices::wide;
 
 // The ones of some words.
 fn ones_in(ws: &[u32]) -> u32

@@ -1,14 +1,13 @@
 // The record of a segment that joins a class.
 ghost use mathlib.Core.Path.{_≡_};
 ghost use mathlib.Core.Bool.{false};
-ghost use Prim.Native.Nat.{_<_};
-ghost use lib.ListN.{length, replicate};
 ghost use Rattle.model.specs.Layout.{record-words};
 ghost use Rattle.bitmap.specs.Tree.{OnLevel, Fresh, head-only, padding-word, padded-level};
 use crate::levels::level_end;
 use crate::levels::word_at;
 use words::class::level_words;
 use words::fields::record_head;
+use words::slices::clear;
 
 // The word in which a level ends: ones past the end.
 fn padding(end: u32) -> u32
@@ -19,16 +18,6 @@ fn padding(end: u32) -> u32
         return 0;
     }
     0xFFFF_FFFF << b
-}
-
-fn clear(rec: &mut [u32])
-    ensures { λ _. ⌜ now (rec .exit) ≡ replicate (length (now (rec .entry))) 0 ⌝ }
-{
-    let mut o = 0;
-    while o < rec.len() {
-        rec[o] = 0;
-        o += 1;
-    }
 }
 
 // Pads the last word of a level, if the class uses the level.

@@ -7,13 +7,7 @@ ghost use Rattle.model.specs.Layout.{level-at, level-room};
 ghost use Rattle.bitmap.specs.Tree.{ClassLevel};
 use words::class::blocks;
 use words::class::level_words;
-
-// A number as a place in a slice.
-pub fn wide(x: u32) -> usize
-    ensures { λ r. ⌜ r ≡ x ⌝ }
-{
-    x as usize
-}
+use words::slices::wide;
 
 fn level_at(level: u32) -> usize
     requires { ⌜ level < 3 ⌝ }

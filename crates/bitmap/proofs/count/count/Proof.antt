@@ -9,14 +9,13 @@ use Rattle.model.specs.Below.{count-below}
 use Rattle.model.specs.Class.{blocks}
 use Rattle.model.specs.Word.{bit}
 use Rattle.model.specs.View.{bit-in}
-use Rattle.words.proofs.ClassLaws.{blocks-most}
-use Rattle.bitmap.proofs.LevelLaws.{class-high}
+use Rattle.words.proofs.ClassLaws.{class-bounds, blocks-most}
 use Rattle.bitmap.proofs.CountLaws.{count-in-word, count-in-part, whole-words}
 use Rattle.bitmap.proofs.count.count.Statement.{statement}
 use Rattle.bitmap.proofs.count.count.Tie as tie
 
 blocks-requires : tie.Need-blocks-requires
-blocks-requires c κs = omega (arith, class-high (c .before .args .class) (c .before .pre .class))
+blocks-requires c κs = omega (arith, class-bounds (c .before .args .class) (c .before .pre .class))
 
 shared-slice-read-low-bits : tie.Need-shared-slice-read-low-bits
 shared-slice-read-low-bits c = search needs

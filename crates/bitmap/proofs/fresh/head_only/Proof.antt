@@ -6,7 +6,7 @@ use mathlib.Core.Path.{ap, ap₂, _∙_}
 use mathlib.Core.List.{List}
 use lib.ListN.{set, replicate}
 use borrow.Author.Needs.{needs}
-use Rattle.bitmap.proofs.LevelLaws.{class-high}
+use Rattle.words.proofs.ClassLaws.{class-bounds}
 use Rattle.bitmap.proofs.fresh.head_only.Statement.{statement}
 use Rattle.bitmap.proofs.fresh.head_only.Tie as tie
 
@@ -16,7 +16,7 @@ clear-requires c κs = search needs
 record-head-requires : tie.Need-record-head-requires
 record-head-requires c κs =
     let p = c .before .before .before .before .before .pre in
-    (omega (arith, class-high (c .before .before .before .before .before .args .class) (p .class)), p .ranked, search needs)
+    omega (arith, class-bounds (c .before .before .before .before .before .args .class) (p .class))
 
 slice-write-rec : tie.Need-slice-write-rec
 slice-write-rec c = search needs

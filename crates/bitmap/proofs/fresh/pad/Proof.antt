@@ -7,15 +7,14 @@ use lib.ListN.{set}
 use borrow.Author.Tests.{lt-ltb, le-ltb}
 use borrow.Author.Needs.{needs}
 use Rattle.model.specs.Class.{level-words}
+use Rattle.words.proofs.ClassLaws.{class-bounds}
 use Rattle.bitmap.specs.Tree.{padding-word}
-use Rattle.bitmap.proofs.LevelLaws.{class-low, class-high, words-room}
+use Rattle.bitmap.proofs.LevelLaws.{words-room}
 use Rattle.bitmap.proofs.fresh.pad.Statement.{statement}
 use Rattle.bitmap.proofs.fresh.pad.Tie as tie
 
 level-words-requires : tie.Need-level-words-requires
-level-words-requires c κs =
-    let i = c .before .args .class in
-    (class-low i (c .before .pre .class), class-high i (c .before .pre .class), c .before .pre .level)
+level-words-requires c κs = omega (arith, class-bounds (c .before .args .class) (c .before .pre .class))
 
 returns : tie.Need-returns
 returns c =

@@ -6,7 +6,7 @@ use mathlib.Core.Path.{_≡_, refl, _∙_}
 use mathlib.Core.Logic.{_≢_}
 use borrow.Author.Needs.{needs}
 use Rattle.model.specs.Class.{level-words, level-end}
-use Rattle.bitmap.proofs.LevelLaws.{class-low, class-high}
+use Rattle.words.proofs.ClassLaws.{class-bounds}
 use Rattle.bitmap.proofs.levels.level_end.Statement.{statement}
 use Rattle.bitmap.proofs.levels.level_end.Tie as tie
 
@@ -16,15 +16,13 @@ below i zero h = absurd (h refl)
 below i (suc l) h = let back : suc l - 1 ≡ l = omega arith in rw back
 
 blocks-requires : tie.Need-blocks-requires
-blocks-requires c κs = omega (arith, class-high (c .before .args .class) (c .before .pre .class))
+blocks-requires c κs = omega (arith, class-bounds (c .before .args .class) (c .before .pre .class))
 
 sub-level-words : tie.Need-sub-level-words
 sub-level-words c = search needs
 
 level-words-requires : tie.Need-level-words-requires
-level-words-requires c κs =
-    let i = c .before .args .class in
-    (class-low i (c .before .pre .class), class-high i (c .before .pre .class), search needs)
+level-words-requires c κs = omega (arith, class-bounds (c .before .args .class) (c .before .pre .class))
 
 returns : tie.Need-returns
 unfolding level-end
