@@ -1,9 +1,10 @@
 -- Gathering: the references of a run of blocks, end to end in a row.
 -- Assumes nothing.
-use Prim.Native.Nat.{ℕ, _+_, _*_, _<_, _≤_}
+use Prim.Native.Nat.{ℕ, _+_, _-_, _<_, _≤_}
 use mathlib.Core.Path.{_≡_}
 use mathlib.Core.Bool.{true}
 use mathlib.Core.List.{List, _++_}
+use lib.Bits.{bitAnd}
 use lib.ListN.{length, getD, take}
 use Rattle.model.specs.Below.{words-below, lists-below}
 use Rattle.model.specs.View.{segments, block, r-in, reference-in}
@@ -24,10 +25,22 @@ pub record Taken (ws : List ℕ) (N h : ℕ) : Type 0 where
   pub all : N ≡ segments ws
   pub taken : is-taken ws h ≡ true
 
+-- There is room for a block's references behind the first `end` words of a row, and for eight words. A block's words are a power of two, so
+-- that the mask of their number keeps each place among them.
+pub record Room (block row : List ℕ) (end : ℕ) : Type 0 where
+  pub some : r-in block < length block
+  pub power : (o : ℕ) → o < length block → bitAnd o (length block - 1) ≡ o
+  pub all : end + r-in block ≤ length row
+  pub eight : end + 8 ≤ length row
+
 -- a block's references stand in a row behind its first `end` words, up to `end'`
 pub record Behind (references row : List ℕ) (end end' : ℕ) (row' : List ℕ) : Type 0 where
   pub count : end' ≡ end + length references
   pub words : take end' row' ≡ take end row ++ references
+
+-- so do its first r references, for any r up to eight
+abbrev pub Eight : List ℕ → List ℕ → ℕ → List ℕ → Type 0
+Eight block row end row' = (r : ℕ) → r ≤ 8 → r < length block → Behind (words-below r (reference-in block)) row end (end + r) row'
 
 -- each block of a queue is a taken block of a sound arena of N segments
 pub record Queue (ws : List ℕ) (N : ℕ) (queue : List ℕ) : Type 0 where

@@ -5,7 +5,7 @@ ghost use lib.ListN.{length};
 ghost use Rattle.model.specs.Word.{put};
 ghost use Rattle.model.specs.Below.{words-below};
 ghost use Rattle.model.specs.View.{r-in, reference-in};
-ghost use Rattle.trace.specs.Gather.{references-of, Taken, Behind, Queue, Gathered};
+ghost use Rattle.trace.specs.Gather.{references-of, Taken, Room, Behind, Eight, Queue, Gathered};
 use arena::block_of;
 use arena::class;
 use arena::wide;
@@ -26,12 +26,31 @@ pub fn copy(from: &[u32], row: &mut [u32], at: usize)
     }
 }
 
-// Copies a block's references behind the first `end` words of a row, and says where they end.
+// Copies eight words of a block, from its first reference on, behind the first `end` words of a row: the
+// references, if it has no more than eight, and then whatever follows. A shorter block is gone round.
+fn eight(block: &[u32], row: &mut [u32], end: usize)
+    requires { ⌜ Room (now block) (now row) end ⌝ }
+    ensures { λ _. ⌜ Eight (now (block .entry)) (now (row .entry)) end (now (row .exit)) ⌝ }
+{
+    let mask = block.len() - 1;
+    let mut f: usize = 0;
+    while f < 8 {
+        row[end + f] = block[(1 + f) & mask];
+        f += 1;
+    }
+}
+
+// Copies a block's references behind the first `end` words of a row, and says where they end. Most blocks
+// have few: to copy always eight spares them a loop of unforeseeable length.
 fn references(block: &[u32], row: &mut [u32], end: usize) -> usize
-    requires { ⌜ (r-in (now block) < length (now block)) × (end + r-in (now block) ≤ length (now row)) ⌝ }
+    requires { ⌜ Room (now block) (now row) end ⌝ }
     ensures { λ r. ⌜ Behind (words-below (r-in (now (block .entry))) (reference-in (now (block .entry)))) (now (row .entry)) end r (now (row .exit)) ⌝ }
 {
     let r = wide(header_r(block[0]));
+    if r <= 8 {
+        eight(block, row, end);
+        return end + r;
+    }
     let last = 1 + r;
     copy(&block[1..last], row, end);
     end + r

@@ -54,7 +54,8 @@ references-requires : tie.Need-references-requires
 references-requires c κs =
     let s = c .before .before .before .before .before .before .before in
     let inside = taken-inside (s .args .arena .now) (s .args .h) (s .pre .0 .right) (s .pre .0 .taken) in
-    rw (the-block (c .before)) (inside .room, omega (arith, inside .most, s .pre .1))
+    rw (the-block (c .before))
+    (record { some = inside .room; power = inside .power; all = omega (arith, inside .most, s .pre .1); eight = omega (arith, s .pre .1) })
 
 -- src/gather.rt:42:1
 same-length : tie.Need-same-length
