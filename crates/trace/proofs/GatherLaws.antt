@@ -24,11 +24,11 @@ use Rattle.model.specs.Standing.{taken-at, is-taken, none-or-taken}
 use Rattle.model.specs.Sound.{sound}
 use Rattle.laws.proofs.Below.{length-words-below, word-words-below}
 use Rattle.laws.proofs.Splice.{length-part, word-part}
-use Rattle.words.proofs.ClassLaws.{class-bounds, class-high, class-room}
+use Rattle.words.proofs.ClassLaws.{class-bounds, class-high, class-room, block-least}
 use Rattle.arena.specs.Inside.{Segment, Block}
 use Rattle.soundness.proofs.Tests.{and-left, and-right}
 use Rattle.soundness.proofs.Facts.{sound-facts, taken-block, block-length}
-use Rattle.trace.specs.Gather.{Behind, references-of, references-of-all}
+use Rattle.trace.specs.Gather.{Masked, Behind, references-of, references-of-all}
 
 -- ---- a copy
 
@@ -114,7 +114,7 @@ pub record Inside (ws : List ℕ) (h : ℕ) : Type 0 where
   pub its-block : Block ws (segments ws) (segment-of h) (class ws (segment-of h)) (index-of h)
   pub room : r-in (block ws h) < length (block ws h)
   pub most : r-in (block ws h) ≤ 1023
-  pub power : (o : ℕ) → o < length (block ws h) → bitAnd o (length (block ws h) - 1) ≡ o
+  pub masked : Masked (block ws h)
   pub references : (f : ℕ) → f < r-in (block ws h) → none-or-taken ws (reference-in (block ws h) f) ≡ true
 
 taken-there : (ws : List ℕ) (h : ℕ) → is-taken ws h ≡ true → (h ≢ 0) × (taken-at ws (segment-of h) (index-of h) ≡ true)
@@ -152,12 +152,15 @@ taken-inside ws h right taken =
       its-block = record { few = z .few; long = z .long; there = b .member .below; low = bounds .0; high = bounds .1; inside = b .inside };
       room = omega (arith, shape .within, class-room (n-in (block ws h)) (class ws s) (shape .fits));
       most = omega (arith, shape .within);
-      power = λ o l. rw long (class-mask (class ws s) (bounds .0) o (rw long at l));
+      masked = record {
+        some = omega (arith, block-least (class ws s) c);
+        kept = λ o l. rw long (class-mask (class ws s) (bounds .0) o (rw long at l));
+      };
       references = shape .references;
     }
 
 -- the part that is cut out is the block
-pub block-is : (ws : List ℕ) (N s i k h : ℕ) → N ≡ segments ws → s ≡ segment-of h → i ≡ class ws s → k ≡ index-of h →
-    part ws (block-at N s i k) (block-words i) ≡ block ws h
+pub block-is : (ws : List ℕ) (N s i k h : ℕ) (b : List ℕ) → N ≡ segments ws → s ≡ segment-of h → i ≡ class ws s → k ≡ index-of h →
+    b ≡ part ws (block-at N s i k) (block-words i) → b ≡ block ws h
 unfolding block-of
-block-is ws N s i k h eN es ei ek = cc
+block-is ws N s i k h b eN es ei ek eb = cc

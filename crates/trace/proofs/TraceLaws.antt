@@ -28,7 +28,7 @@ use Rattle.ways.proofs.Trace.{Inv, Bounded, fields, start, traced}
 use Rattle.ways.proofs.Run.{gathered, advance-run}
 use Rattle.ways.proofs.Arena.{references, drawing-bounded, fields-of-taken, taken-position, taken-count-most}
 use Rattle.trace.specs.Marks.{Marked, Row}
-use Rattle.trace.specs.Gather.{references-of, references-of-all, Queue, Gathered}
+use Rattle.trace.specs.Gather.{references-of, references-of-all, Queued, Gathered}
 use Rattle.trace.specs.List.{On, Roots, Handles, Kept}
 use Rattle.trace.specs.Trace.{Traceable, Traced, Listed, Turn, Turned}
 use Rattle.trace.proofs.GatherLaws.{taken-inside}
@@ -114,7 +114,7 @@ queue-length list head tail l = length-take-le (tail - head) (drop head list) (r
 
 module _ {ws : List ℕ} {N : ℕ} {list : List ℕ} {head tail : ℕ} {marks row : List ℕ} (t : Turn ws N list head tail marks row) where
   -- its blocks are taken
-  pub turn-queue : Queue ws N (take (tail - head) (drop head list))
+  pub turn-queue : Queued ws N (take (tail - head) (drop head list))
   turn-queue = record {
     right = t .right;
     all = t .all;

@@ -52,8 +52,7 @@ loop-less c = search needs
 loop-again : tie.Need-loop-again Inv-loop μ-loop
 loop-again c =
     let a = c .before .before .before .args in
-    let j = c .before .before .loop .j in
-    (
+    let j = c .before .before .loop .j in (
       search needs,
       simp length-set (c .before .before .loop .inv .1),
       rw (c .before .before .loop .inv .2) (paste-more (a .row .now) (a .at) (a .from .now) j (omega arith) (omega arith)),

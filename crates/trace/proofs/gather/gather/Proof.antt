@@ -14,7 +14,7 @@ use Rattle.trace.proofs.gather.gather.Lts as lts
 use Rattle.trace.proofs.gather.gather_block.Reads as gather-block-reads
 
 abbrev Inv-loop : tie.InvT-loop
-Inv-loop arena n queue row₀ blocks₀ end₀ row blocks end = 
+Inv-loop arena n queue row₀ blocks₀ end₀ row blocks end =
     (blocks ≤ length queue) × (length row ≡ length row₀) × (end ≤ length row) × (end ≤ 1023 * blocks) × (take end row ≡ references-of-all arena queue blocks)
 
 abbrev μ-loop : tie.MeasureT-loop
@@ -67,8 +67,7 @@ loop-again : tie.Need-loop-again Inv-loop μ-loop
 loop-again c =
     let s = c .before .before .before .before .before .before .before .before .before .before .before in
     let l = c .before .before .before .before .before .before .before .loop in
-    let g = c .before .before .gather-block in
-    (
+    let g = c .before .before .gather-block in (
       omega arith,
       omega arith,
       omega arith,

@@ -45,17 +45,17 @@ block-of-requires c κs =
 the-block : (c : tie.After-block-of) →
     let a = c .before .before .before .before .before .before .args in c .block-of .result .now ≡ block (a .arena .now) (a .h)
 the-block c =
-    let a = c .before .before .before .before .before .before .args in
-    c .block-of .ensures
-    ∙ block-is (a .arena .now) _ _ _ _ (a .h) (c .before .before .before .before .before .before .pre .0 .all) (c .before .before .before .segment .ensures)
-    (c .before .before .class .ensures) (c .before .index .ensures)
+    let s = c .before .before .before .before .before .before in
+    block-is (s .args .arena .now) (s .args .n) (c .before .before .before .segment .result) (c .before .before .class .result) (c .before .index .result .0)
+    (s .args .h) (c .block-of .result .now) (s .pre .0 .all) (c .before .before .before .segment .ensures) (c .before .before .class .ensures)
+    (c .before .index .ensures) (c .block-of .ensures)
 
 references-requires : tie.Need-references-requires
 references-requires c κs =
     let s = c .before .before .before .before .before .before .before in
     let inside = taken-inside (s .args .arena .now) (s .args .h) (s .pre .0 .right) (s .pre .0 .taken) in
     rw (the-block (c .before))
-    (record { some = inside .room; power = inside .power; all = omega (arith, inside .most, s .pre .1); eight = omega (arith, s .pre .1) })
+    (record { masked = inside .masked; within = inside .room; room = omega (arith, inside .most, s .pre .1); eight = omega (arith, s .pre .1) })
 
 -- src/gather.rt:42:1
 same-length : tie.Need-same-length
@@ -68,7 +68,7 @@ returns c =
     let ws = s .args .arena .now in
     let inside = taken-inside ws (s .args .h) (s .pre .0 .right) (s .pre .0 .taken) in
     let behind : Behind (references-of ws (s .args .h)) (s .args .row .now) (s .args .end) (c .before .before .references .result) (c .before .before .references .last .1 .0)
-        = rw (the-block (c .before .before .before .before)) at (c .before .before .references .ensures) in
+    = rw (the-block (c .before .before .before .before)) at (c .before .before .references .ensures) in
     (behind, omega (arith, behind .count, inside .most, length-words-below (r-in (block ws (s .args .h))) (reference-in (block ws (s .args .h)))))
 
 pub gather-block-spec : {M : Type 1} → statement M

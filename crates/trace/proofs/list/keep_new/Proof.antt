@@ -72,15 +72,14 @@ loop-again c =
     let a = c .before .before .before .before .before .before .before .before .before .before .args in
     let l = c .before .before .before .before .before .before .before .loop in
     let m = c .before .before .before .mark in
-    let h = getD (l .row) (l .k) 0 in
-    (
+    let h = getD (l .row) (l .k) 0 in (
       omega arith,
       simp length-set (l .inv .1),
       omega arith,
       λ j v. getD-set-other (l .row) (l .kept) j h 0 (omega (arith, l .inv .4 .within)) ∙ l .inv .3 j (omega arith),
       rw (c .wide .ensures)
-      (kept-more (a .row .now) (l .k) (a .marks .now) (l .kept) (l .row) (l .marks) h (m .result) (m .last .0) (l .inv .4) (omega arith)
-      (omega (arith, l .inv .4 .within)) (l .inv .3 (l .k) (le-refl (l .k))) (m .ensures)),
+          (kept-more (a .row .now) (l .k) (a .marks .now) (l .kept) (l .row) (l .marks) h (m .result) (m .last .0) (l .inv .4) (omega arith)
+          (omega (arith, l .inv .4 .within)) (l .inv .3 (l .k) (le-refl (l .k))) (m .ensures)),
     )
 
 -- src/list.rt:42:1
