@@ -1,14 +1,13 @@
-use Prim.Native.Nat.{ℕ, _+_, _-_, _≤_, _<_}
+-- `trace::gather::eight` meets its contract. The loop's invariant: the first f references, if there are as many, have been copied.
+-- Assumes nothing.
+use Prim.Native.Nat.{_-_, _≤_}
 use mathlib.Core.Path.{_≡_, refl}
 use native.Mathlib.Omega.{arith}
-use borrow.Author.Needs.{needs}
 use lib.ListN.{length, length-set}
+use borrow.Author.Needs.{needs}
 use Rattle.trace.proofs.GatherLaws.{First, first-none, first-more}
 use Rattle.trace.proofs.gather.eight.Statement.{statement}
 use Rattle.trace.proofs.gather.eight.Tie as tie
-use Rattle.trace.proofs.gather.eight.Reads as reads
-use Rattle.trace.proofs.gather.eight.Lts as lts
-use Rattle.trace.proofs.gather.reference.Reads as reference-reads
 
 abbrev Inv-loop : tie.InvT-loop
 Inv-loop block row₀ end f₀ row f = (f ≤ 8) × (length row ≡ length row₀) × First block row₀ end f row
@@ -16,36 +15,28 @@ Inv-loop block row₀ end f₀ row f = (f ≤ 8) × (length row ≡ length row�
 abbrev μ-loop : tie.MeasureT-loop
 μ-loop block row₀ end f₀ row f = 8 - f
 
--- src/gather.rt:46:5
 loop-holds : tie.Need-loop-holds Inv-loop μ-loop
 loop-holds c =
     let a = c .before .before .args in (omega arith, refl, first-none (a .block .now) (a .row .now) (a .end))
 
--- src/gather.rt:47:24
 reference-requires : tie.Need-reference-requires Inv-loop μ-loop
 reference-requires c κs = search needs
 
--- src/gather.rt:47:13
 add-row : tie.Need-add-row Inv-loop μ-loop
 add-row c = search needs
 
--- src/gather.rt:47:9
 mul-row : tie.Need-mul-row Inv-loop μ-loop
 mul-row c = search needs
 
--- src/gather.rt:47:9
 slice-write-row : tie.Need-slice-write-row Inv-loop μ-loop
 slice-write-row c = search needs
 
--- src/gather.rt:48:9
 add-f : tie.Need-add-f Inv-loop μ-loop
 add-f c = search needs
 
--- src/gather.rt:46:5
 loop-less : tie.Need-loop-less Inv-loop μ-loop
 loop-less c = search needs
 
--- src/gather.rt:46:5
 loop-again : tie.Need-loop-again Inv-loop μ-loop
 loop-again c =
     let s = c .before .before .before .before .before in
@@ -55,11 +46,9 @@ loop-again c =
       first-more (s .args .block .now) (s .args .row .now) (s .args .end) (l .f) (l .row) (c .reference .result) (omega arith) (c .reference .ensures) (l .inv .2),
     )
 
--- src/gather.rt:41:1
 same-length : tie.Need-same-length Inv-loop μ-loop
 same-length c = search needs
 
--- src/gather.rt:41:1
 returns : tie.Need-returns Inv-loop μ-loop
 returns c = λ r l u. c .before .loop .inv .2 r (omega arith) u
 

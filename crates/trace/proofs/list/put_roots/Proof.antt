@@ -1,20 +1,16 @@
+-- `trace::list::put_roots` meets its contract. The loop's invariant: the first p roots have been put on an empty list. Assumes nothing.
 use Prim.Native.Nat.{ℕ, _+_, _-_, _≤_}
 use mathlib.Core.Path.{_≡_, refl, subst}
 use mathlib.Core.List.{List, []}
 use native.Mathlib.Omega.{arith}
-use borrow.Author.Needs.{needs}
 use lib.ListN.{length, take}
 use lib.Seq.{take-all}
+use borrow.Author.Needs.{needs}
 use Rattle.ways.proofs.Put.{put-all}
 use Rattle.trace.specs.List.{On}
 use Rattle.trace.proofs.ListLaws.{roots-none, root-room, root-on}
 use Rattle.trace.proofs.list.put_roots.Statement.{statement}
 use Rattle.trace.proofs.list.put_roots.Tie as tie
-use Rattle.trace.proofs.list.put_roots.Reads as reads
-use Rattle.trace.proofs.list.put_roots.Lts as lts
-use Rattle.trace.proofs.list.put_root.Reads as put-root-reads
-use Rattle.trace.proofs.list.root_at.Reads as root-at-reads
-use Rattle.trace.proofs.marks.clear.Reads as clear-reads
 
 abbrev Inv-loop : tie.InvT-loop
 Inv-loop n roots list₀ marks₀ c₀ p₀ list marks c p =
@@ -23,21 +19,17 @@ Inv-loop n roots list₀ marks₀ c₀ p₀ list marks c p =
 abbrev μ-loop : tie.MeasureT-loop
 μ-loop n roots list₀ marks₀ c₀ p₀ list marks c p = length roots - p
 
--- src/list.rt:38:5
 clear-requires : tie.Need-clear-requires Inv-loop μ-loop
 clear-requires c κs = search needs
 
--- src/list.rt:41:5
 loop-holds : tie.Need-loop-holds Inv-loop μ-loop
 loop-holds c =
     let a = c .before .before .before .before .before .before .before .args in
     (omega arith, refl, refl, roots-none (a .n) (a .roots .now) (a .list .now) (c .before .before .clear .last .0) (c .before .before .clear .ensures))
 
--- src/list.rt:42:22
 root-at-requires : tie.Need-root-at-requires Inv-loop μ-loop
 root-at-requires c κs = search needs
 
--- src/list.rt:42:9
 put-root-requires : tie.Need-put-root-requires Inv-loop μ-loop
 put-root-requires c κs =
     let s = c .before .before .before .before .before .before .before .before .before .before .before .before in
@@ -50,15 +42,12 @@ put-root-requires c κs =
           (omega (arith, s .pre .room (l .p + 1) (omega arith)));
     })
 
--- src/list.rt:43:9
 add-p : tie.Need-add-p Inv-loop μ-loop
 add-p c = search needs
 
--- src/list.rt:41:5
 loop-less : tie.Need-loop-less Inv-loop μ-loop
 loop-less c = search needs
 
--- src/list.rt:41:5
 loop-again : tie.Need-loop-again Inv-loop μ-loop
 loop-again c =
     let s = c .before .before .before .before .before .before .before .before .before .before .before .before .before .before .before .before .before in
@@ -70,15 +59,12 @@ loop-again c =
           (l .inv .3) (rw (c .before .before .before .before .before .before .before .root-at .ensures) at (c .before .before .before .before .put-root .ensures)),
     )
 
--- src/list.rt:34:1
 same-length : tie.Need-same-length Inv-loop μ-loop
 same-length c = search needs
 
--- src/list.rt:34:1
 same-length-2 : tie.Need-same-length-2 Inv-loop μ-loop
 same-length-2 c = search needs
 
--- src/list.rt:34:1
 returns : tie.Need-returns Inv-loop μ-loop
 returns c =
     let a = c .before .before .before .before .before .before .before .before .before .args in
