@@ -12,14 +12,14 @@ use lib.Seq.{ext-getD}
 use lib.Dec.{eqb, leb, ltb}
 use borrow.Author.Tests.{eqb-true, eqb-false, eq-eqb, ne-eqb, leb-true, leb-false, le-leb, lt-leb, ltb-true, lt-ltb, not-true}
 use Rattle.model.specs.Below.{all-below, count-below}
-use Rattle.model.specs.Word.{word, unnamed}
+use Rattle.model.specs.Word.{word, part, unnamed}
 use Rattle.model.specs.Class.{is-class, every-class, blocks, block-words, class-of}
 use Rattle.model.specs.Layout.{arena-length, place-at, record-at, area-at}
 use Rattle.model.specs.View.{segments, place-rank, place-index, record-of, class, rank, count, bit-of, members, block-offset, block-of, n-in, r-in, reference-in}
 use Rattle.model.specs.Standing.{in-pool, is-block, before-place, taken-at, none-or-taken}
 use Rattle.model.specs.Sound.{every-member, sized, unnamed-zero, classes, ranks, levels-right, levels, counts, behind, place-right, places, block-right, taken-right, sound}
 use Rattle.laws.proofs.Below.{all-below-at, all-below-intro}
-use Rattle.laws.proofs.Splice.{length-part, word-part}
+use Rattle.laws.proofs.Splice.{length-part, word-part, part-part}
 use Rattle.words.proofs.ClassLaws.{class-rule, class-bounds}
 use Rattle.words.proofs.HandleLaws.{block-in-arena}
 use Rattle.soundness.proofs.Tests.{and-left, and-right, and-intro, or-cases, or-left, or-right, or-else, else-or, if-then, then-if, every-class-intro, either}
@@ -457,3 +457,8 @@ block-length ws z s k c b = length-part ws (block-offset ws s k) (block-words (c
 pub block-word : (ws : List ℕ) (s k j : ℕ) → j < block-words (class ws s) → word (block-of ws s k) j ≡ word ws (block-offset ws s k + j)
 unfolding block-of
 block-word ws s k j l = word-part ws (block-offset ws s k) (block-words (class ws s)) j l
+
+pub block-part : (ws : List ℕ) → Sized ws → (s k : ℕ) → is-class (class ws s) ≡ true → Block ws s k → (a n : ℕ) → a + n ≤ block-words (class ws s)
+    → part (block-of ws s k) a n ≡ part ws (block-offset ws s k + a) n
+unfolding block-of
+block-part ws z s k c b a n l = part-part ws (block-offset ws s k) (block-words (class ws s)) a n (block-end ws z s k c b) l

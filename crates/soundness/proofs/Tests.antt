@@ -1,10 +1,11 @@
 -- Tests joined by and, or and not, as facts: what a joined test that passes tells, and what it takes for one to pass.
 -- Assumes nothing.
-use Prim.Native.Nat.{ℕ, _+_}
+use Prim.Native.Nat.{ℕ, _+_, _<_}
 use mathlib.Core.Path.{_≡_, refl, sym, _∙_}
 use mathlib.Core.Logic.{_⊎_, inl, inr}
 use mathlib.Core.Bool.{Bool, true, false, not, _&&_, _||_, false≢true}
 use native.Mathlib.Omega.{arith}
+use native.Mathlib.Decide.{decLt}
 use Rattle.model.specs.Class.{is-class, every-class}
 use Rattle.laws.proofs.Below.{all-below-intro}
 use Rattle.words.proofs.ClassLaws.{bounds-class}
@@ -97,6 +98,21 @@ not-passed false h = refl
 pub either : (a : Bool) → (a ≡ true) ⊎ (a ≡ false)
 either true = inl refl
 either false = inr refl
+
+-- ---- two numbers
+
+pub data Order (a b : ℕ) : Type 0 where
+  is-below : a < b → Order a b
+  is-same : a ≡ b → Order a b
+  is-above : b < a → Order a b
+
+pub order : (a b : ℕ) → Order a b
+order a b = go (decLt a b) (decLt b a)
+  where
+    go : Dec (a < b) → Dec (b < a) → Order a b
+    go (yes l) d = is-below l
+    go (no f) (yes l) = is-above l
+    go (no f) (no g) = is-same (omega (arith, f, g))
 
 -- ---- the ten classes
 

@@ -1,0 +1,87 @@
+-- `taken::judge::segment_right` meets its contract: a segment in the pool has no taken block, and of another first the headers decide, then the references.
+-- Assumes nothing.
+use native.Mathlib.Omega.{arith}
+use mathlib.Core.Path.{_≡_, sym, _∙_}
+use mathlib.Core.Bool.{false}
+use borrow.Author.Needs.{needs}
+use borrow.Author.Tests.{eq-eqb, ne-eqb, not-true, not-false}
+use Rattle.model.specs.View.{class}
+use Rattle.model.specs.Standing.{in-pool}
+use Rattle.words.proofs.ClassLaws.{class-bounds}
+use Rattle.taken.specs.Gather.{Of}
+use Rattle.taken.proofs.JudgeLaws.{judged-pool, judged-wrong, judged-right}
+use Rattle.taken.proofs.judge.segment_right.Statement.{statement}
+use Rattle.taken.proofs.judge.segment_right.Tie as tie
+
+-- past the test the segment is not in the pool, so it has a class
+used : (c : tie.Else1) → in-pool (c .before .before .before .args .arena .now) (c .before .before .before .args .s) ≡ false
+used c = ne-eqb _ 0 (λ z. c .if1 .left (c .before .class .ensures ∙ z))
+
+of : (c : tie.Else1)
+    → Of (c .before .before .before .args .arena .now) (c .before .before .before .args .n) (c .before .before .before .args .s) (c .before .class .result)
+of c =
+    let a = c .before .before .before .args in
+    let p = c .before .before .before .pre in
+    let there = p .there in
+    let same = c .before .class .ensures in
+    let bounds = class-bounds (class (a .arena .now) (a .s)) (p .classed .classed (a .s) (omega (arith, p .all, p .there)) (used c)) in
+    record {
+      all = p .all;
+      member = record {
+        few = p .classed .few;
+        long = p .classed .long;
+        there = omega (arith, p .all, p .there);
+        class = same;
+        low = omega (arith, same, bounds .0);
+        high = omega (arith, same, bounds .1);
+      };
+    }
+
+class-requires : tie.Need-class-requires
+class-requires c κs = search needs
+
+returns : tie.Need-returns
+returns c =
+    let a = c .before .before .before .args in
+    record {
+      long = c .before .before .before .pre .long;
+      judged = sym (judged-pool (a .arena .now) (a .s) (eq-eqb _ 0 (sym (c .before .class .ensures) ∙ c .if1 .taken)));
+    }
+
+gather-segment-requires : tie.Need-gather-segment-requires
+gather-segment-requires c κs =
+    let p = c .before .before .before .before .pre in
+    record { of = of (c .before); taken = p .taken; long = p .long }
+
+returns-2 : tie.Need-returns-2
+returns-2 c =
+    let g = c .before .before .gather-segment .ensures in
+    let else = c .before .before .before .before in
+    record { long = g .long; judged = sym (judged-wrong (of else) g (not-true _ (c .if2 .taken)) (used else)) }
+
+references-right-requires : tie.Need-references-right-requires
+references-right-requires c κs =
+    let p = c .before .before .before .before .before .before .before .before .pre in
+    let room = c .before .before .before .gather-segment .ensures .room (not-false _ (c .before .if2 .left)) in
+    (room, omega (arith, p .classed .some, p .all), omega (arith, p .classed .few, p .all))
+
+returns-3 : tie.Need-returns-3
+returns-3 c =
+    let g = c .before .before .before .before .gather-segment .ensures in
+    let else = c .before .before .before .before .before .before in
+    let p = else .before .before .before .pre in
+    record {
+      long = g .long;
+      judged = c .references-right .ensures ∙ judged-right (of else) g (not-false _ (c .before .before .if2 .left)) (used else) (p .taken);
+    }
+
+pub segment-right-spec : {M : Type 1} → statement M
+segment-right-spec =
+    tie.close
+    (tie.spec
+    class-requires
+    returns
+    gather-segment-requires
+    returns-2
+    references-right-requires
+    returns-3)

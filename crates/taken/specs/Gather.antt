@@ -1,0 +1,101 @@
+-- What the judge gathers of a segment: whether the headers of its taken blocks are right, and the references of those blocks end to end.
+-- Assumes nothing.
+use Prim.Native.Nat.{ℕ, _+_, _-_, _*_, _≤_, _<_}
+use mathlib.Core.Path.{_≡_}
+use mathlib.Core.Bool.{Bool, true, not, cond, _&&_, _||_}
+use mathlib.Core.List.{List, [], _++_}
+use lib.ListN.{length, take}
+use lib.Dec.{eqb, leb}
+use Rattle.model.specs.Below.{all-below, lists-below}
+use Rattle.model.specs.Word.{word, part, bit}
+use Rattle.model.specs.Class.{blocks, block-words, class-of}
+use Rattle.model.specs.View.{segments, class, block-of, n-in, r-in}
+use Rattle.model.specs.Standing.{in-pool, taken-at}
+use Rattle.model.specs.Sound.{block-right}
+use Rattle.taken.specs.Row.{Classed, Member, TakenRow}
+
+-- a header of class i: "n whose class is the segment's, r not above n"
+unfoldable pub header-right : ℕ → List ℕ → Bool
+header-right i b = eqb (class-of (n-in b)) i && leb (r-in b) (n-in b)
+
+-- a block's references
+abbrev pub references-in : List ℕ → List ℕ
+references-in b = part b 1 (r-in b)
+
+-- the same of block k of segment s, as far as it is taken
+unfoldable pub headed : List ℕ → ℕ → ℕ → Bool
+headed ws s k = not (taken-at ws s k) || header-right (class ws s) (block-of ws s k)
+
+unfoldable pub references-of : List ℕ → ℕ → ℕ → List ℕ
+references-of ws s k = cond (taken-at ws s k) (references-in (block-of ws s k)) []
+
+-- all is right with the taken blocks of segment s
+unfoldable pub segment-right : List ℕ → ℕ → Bool
+segment-right ws s =
+    in-pool ws s || all-below (blocks (class ws s)) (λ k. not (taken-at ws s k) || block-right ws (class ws s) (block-of ws s k))
+
+-- ---- what one block adds to the references that are gathered already, the first m words of the row
+
+pub record Copying (b refs : List ℕ) (r m : ℕ) : Type 0 where
+  pub inside : r < length b
+  pub long : length refs ≡ 4096
+  pub room : m + r ≤ 4096
+
+pub record Copied (b refs : List ℕ) (r m : ℕ) (refs' : List ℕ) : Type 0 where
+  pub long : length refs' ≡ 4096
+  pub words : take (m + r) refs' ≡ take m refs ++ part b 1 r
+
+pub record Adding (i : ℕ) (b refs : List ℕ) (m : ℕ) : Type 0 where
+  pub block : length b ≡ block-words i
+  pub some : 0 < block-words i
+  pub long : length refs ≡ 4096
+  pub room : m + (block-words i - 1) ≤ 4096
+
+pub record Added (i : ℕ) (b refs : List ℕ) (m : ℕ) (refs' : List ℕ) (right : Bool) (count : ℕ) : Type 0 where
+  pub long : length refs' ≡ 4096
+  pub header : right ≡ header-right i b
+  pub room : right ≡ true → count ≤ 4096
+  pub words : right ≡ true → take count refs' ≡ take m refs ++ references-in b
+
+-- ---- what the blocks of a segment below `end` give
+
+pub record GatheredBelow (ws : List ℕ) (s end : ℕ) (refs : List ℕ) (right : Bool) (count : ℕ) : Type 0 where
+  pub long : length refs ≡ 4096
+  pub headers : right ≡ all-below end (headed ws s)
+  pub room : right ≡ true → count ≤ 4096
+  pub words : right ≡ true → take count refs ≡ lists-below end (references-of ws s)
+
+-- segment s, of class i, of an arena of N segments
+pub record Of (ws : List ℕ) (N s i : ℕ) : Type 0 where
+  pub all : N ≡ segments ws
+  pub member : Member ws s i
+
+-- asked for the taken block k, with the references of those before it
+pub record AtBlock (ws : List ℕ) (N s i k : ℕ) (refs : List ℕ) (m : ℕ) : Type 0 where
+  pub of : Of ws N s i
+  pub taken : taken-at ws s k ≡ true
+  pub gathered : GatheredBelow ws s k refs true m
+
+-- asked for the 32 blocks of word j, with the references of those before them
+pub record AtWord (ws : List ℕ) (N s i j w : ℕ) (refs : List ℕ) (m : ℕ) : Type 0 where
+  pub of : Of ws N s i
+  pub inside : j < 64
+  pub bits : (b : ℕ) → b < 32 → bit w b ≡ taken-at ws s (32 * j + b)
+  pub gathered : GatheredBelow ws s (32 * j) refs true m
+
+pub record AtSegment (ws : List ℕ) (N s i : ℕ) (row refs : List ℕ) : Type 0 where
+  pub of : Of ws N s i
+  pub taken : TakenRow ws row
+  pub long : length refs ≡ 4096
+
+-- asked for any segment
+pub record Judging (ws : List ℕ) (N s : ℕ) (row refs : List ℕ) : Type 0 where
+  pub classed : Classed ws
+  pub all : N ≡ segments ws
+  pub there : s < N
+  pub taken : TakenRow ws row
+  pub long : length refs ≡ 4096
+
+pub record Judged (ws : List ℕ) (s : ℕ) (refs : List ℕ) (right : Bool) : Type 0 where
+  pub long : length refs ≡ 4096
+  pub judged : right ≡ segment-right ws s
