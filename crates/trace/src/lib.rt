@@ -40,7 +40,8 @@ fn turn(
     ensures { λ r. ⌜ Turned (now (arena .entry)) n (now (list .entry)) head tail (r .head) (r .tail) (now (list .exit)) (now (marks .exit)) ⌝ }
 {
     let run = gather(arena, n, &list[head..tail], row);
-    let kept = keep_new(row, run.end, marks);
+    let end = run.end;
+    let kept = keep_new(row, end, marks);
     copy(&row[0..kept], list, tail);
     Queue {
         head: head + run.blocks,

@@ -42,11 +42,11 @@ copy-requires c κs =
     let room = turn-room (c .before .before .before .before .before .before .before .before .before .before .before .before .before .before .before .before .before .before .before .before .pre) (c .before .before .before .before .before .before .before .before .before .before .before .before .gather .ensures) (k .kept .0) (k .ensures) in
     omega (arith, room, length-take (k .result - 0) (k .last .0))
 
-add-t12 : tie.Need-add-t12
-add-t12 c = search needs
+add-t13 : tie.Need-add-t13
+add-t13 c = search needs
 
-add-t10 : tie.Need-add-t10
-add-t10 c = search needs
+add-t11 : tie.Need-add-t11
+add-t11 c = search needs
 
 same-length : tie.Need-same-length
 same-length c = search needs
@@ -76,8 +76,8 @@ turn-spec =
     part-copy-start
     part-copy-end
     copy-requires
-    add-t12
-    add-t10
+    add-t13
+    add-t11
     same-length
     same-length-2
     same-length-3
