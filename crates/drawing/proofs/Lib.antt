@@ -1,3 +1,11 @@
+pub mod Collecting
+pub mod FieldReads
+pub mod Judged
+pub mod Kept
 pub mod Outcomes
+pub mod RefusalNumbers
+pub mod Refusals
+pub mod RoomLaws
 pub mod Sizes
+pub mod Standings
 pub mod Unique

@@ -5,4 +5,13 @@
 // and leaves, for all inputs and all refusals, is one promise of crate model (specs/Calls), and two
 // outcomes that meet a promise are equal (proofs/Unique).
 
+pub mod allocate;
+pub mod ask;
+pub mod collect;
+mod fields;
+mod look;
 pub mod make;
+pub mod plain;
+mod put;
+pub mod references;
+mod rooms;

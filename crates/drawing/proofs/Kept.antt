@@ -1,0 +1,80 @@
+-- A granted write keeps the arena sound, takes and frees no block, and leaves every other block's words. Assumes nothing.
+use Prim.Native.Nat.{ℕ, _+_, _-_, _<_}
+use native.Mathlib.Omega.{arith}
+use mathlib.Core.Path.{_≡_, refl, sym, ap, _∙_, subst}
+use mathlib.Core.Logic.{_≢_}
+use mathlib.Core.Bool.{Bool, true, false, not, cond}
+use mathlib.Core.List.{List, [], _∷_}
+use lib.Dec.{eqb, ltb}
+use borrow.Author.Tests.{ltb-true}
+use Rattle.model.specs.Word.{put}
+use Rattle.model.specs.Class.{blocks}
+use Rattle.model.specs.Layout.{handle, segment-of, index-of}
+use Rattle.model.specs.View.{class, block-of, offset, block, n-in, r-in}
+use Rattle.model.specs.Standing.{is-block, is-taken, none-or-taken, standing-of}
+use Rattle.model.specs.Sound.{sound}
+use Rattle.model.specs.Numbers.{Paper, paper, refuse, written-paper}
+use Rattle.model.specs.Calls.{Outcome, WriteReference, WritePlain}
+use Rattle.model.specs.declared.Written.{Written}
+use Rattle.model.specs.declared.Written.the-variants.{Done}
+use Rattle.words.proofs.HandleLaws.{handle-segment, handle-index, handle-back}
+use Rattle.soundness.proofs.Facts.{Block, block-facts, sound-facts, facts-sound}
+use Rattle.soundness.proofs.Taken.{handle-facts}
+use Rattle.soundness.proofs.Views.{same-is-taken}
+use Rattle.soundness.proofs.Writes as writes
+
+-- word o of block h becomes v, and nothing else changes
+pub record Kept (ws : List ℕ) (h o v : ℕ) (ws' : List ℕ) : Type 0 where
+  pub still-sound : sound ws' ≡ true
+  pub same-taken : (g : ℕ) → is-taken ws' g ≡ is-taken ws g
+  pub own : block ws' h ≡ put (block ws h) o (v ∷ [])
+  pub others : (s k : ℕ) → is-block ws s k ≡ true → handle s k ≢ h → block-of ws' s k ≡ block-of ws s k
+
+-- what soundness/Writes says of a word put into a block, in handles
+kept : (ws : List ℕ) (h o v : ℕ) (ws' : List ℕ) → 0 < h → writes.Written ws' ws (segment-of h) (index-of h) o v → Kept ws h o v ws'
+kept ws h o v ws' some w = record {
+  still-sound = facts-sound ws' (w .sound-after);
+  same-taken = same-is-taken ws' ws (w .front);
+  own = w .own;
+  others = λ s k b apart.
+      w .others s k (block-facts ws s k b)
+      (λ es ek. apart (ap (λ (t : ℕ). handle t k) es ∙ ap (handle (segment-of h)) ek ∙ handle-back h some));
+}
+
+-- ---- a granted answer: no refusal applied, and the words are those of the grant
+
+passed : (e x : ℕ) (t : Bool) → e ≢ 0 → refuse e (not t) x ≡ 0 → (t ≡ true) × (x ≡ 0)
+passed e x true some none = (refl, none)
+passed e x false some none = absurd (some none)
+
+module _ {e : ℕ} {after ws ws' : List ℕ} (o : Outcome e [] after ws (written-paper Done) ws') where
+  no-refusal : e ≡ 0
+  no-refusal = sym (ap (λ (p : Paper). p .number) (o .answered))
+
+  granted-words : ws' ≡ after
+  granted-words = o .words ∙ ap (λ (n : ℕ). cond (eqb n 0) after ws) no-refusal
+
+-- ---- the two writes
+
+module _ (ws : List ℕ) (h f v : ℕ) (ws' : List ℕ) where
+  pub kept-reference : WriteReference ws h f v Done ws' → Kept ws h (1 + f) v ws'
+  kept-reference o =
+      let is-field : Bool = ltb f (r-in (block ws h)) in
+      let is-value : Bool = none-or-taken ws v in
+      let two = passed 2 (refuse 5 (not (is-taken ws h)) (refuse 6 (not is-field) (refuse 7 (not is-value) 0))) (sound ws) (λ z. omega arith) (no-refusal o) in
+      let five = passed 5 (refuse 6 (not is-field) (refuse 7 (not is-value) 0)) (is-taken ws h) (λ z. omega arith) (two .1) in
+      let six = passed 6 (refuse 7 (not is-value) 0) is-field (λ z. omega arith) (five .1) in
+      let seven = passed 7 0 is-value (λ z. omega arith) (six .1) in
+      rw (granted-words o)
+      (kept ws h (1 + f) v _ (handle-facts ws h (five .0) .positive)
+      (writes.written-reference ws (sound-facts ws (two .0)) h (five .0) f v (ltb-true f (r-in (block ws h)) (six .0)) (seven .0)))
+
+  pub kept-plain : WritePlain ws h f v Done ws' → Kept ws h (1 + r-in (block ws h) + f) v ws'
+  kept-plain o =
+      let is-field : Bool = ltb f (n-in (block ws h) - r-in (block ws h)) in
+      let two = passed 2 (refuse 5 (not (is-taken ws h)) (refuse 6 (not is-field) 0)) (sound ws) (λ z. omega arith) (no-refusal o) in
+      let five = passed 5 (refuse 6 (not is-field) 0) (is-taken ws h) (λ z. omega arith) (two .1) in
+      let six = passed 6 0 is-field (λ z. omega arith) (five .1) in
+      rw (granted-words o)
+      (kept ws h (1 + r-in (block ws h) + f) v _ (handle-facts ws h (five .0) .positive)
+      (writes.written-plain ws (sound-facts ws (two .0)) h (five .0) f v (ltb-true f (n-in (block ws h) - r-in (block ws h)) (six .0))))

@@ -1,0 +1,23 @@
+-- `drawing::look::is_block_taken` tells whether a handle is that of a taken block. Assumes nothing.
+use borrow.Author.Needs.{needs}
+use mathlib.Core.Path.{sym, ap, _∙_}
+use Rattle.taken.proofs.RowLaws.{row-taken-is}
+use Rattle.drawing.proofs.Judged.{asked}
+use Rattle.drawing.proofs.look.is_block_taken.Statement.{statement}
+use Rattle.drawing.proofs.look.is_block_taken.Tie as tie
+
+segments-requires : tie.Need-segments-requires
+segments-requires c κs = search needs
+
+is-taken-requires : tie.Need-is-taken-requires
+is-taken-requires c κs = search needs
+
+returns : tie.Need-returns
+returns c =
+    let start = c .before .before .before in
+    let h = start .args .h .0 in
+    asked (start .args .arena .now) h _ (start .pre .is-sound)
+    (c .is-taken .ensures ∙ row-taken-is (start .pre .row-right) (sym (c .before .segments .ensures)) h)
+
+pub is-block-taken-spec : {M : Type 1} → statement M
+is-block-taken-spec = tie.close (tie.spec segments-requires is-taken-requires returns)
