@@ -11,7 +11,7 @@ use lib.Dec.{eqb, leb, ltb}
 use lib.Bits.{bitAnd, and-le-r}
 use lib.Count.{trailingZeros, trailing-le, trailing-of-zero}
 use lib.ListN.{length, take, drop, set, length-append, length-set, length-drop, length-take}
-use lib.Seq.{length-take-le, take-suc, take-suc-set, getD-take, getD-drop}
+use lib.Seq.{length-take-le, take-take, take-append-add, take-suc, take-suc-set, getD-take, getD-drop}
 use borrow.Author.Tests.{ltb-true, ltb-false, eqb-true, eqb-false, eq-eqb, ne-eqb, leb-true}
 use Rattle.model.specs.Below.{all-below, lists-below}
 use Rattle.model.specs.Word.{word, part, bit}
@@ -54,6 +54,16 @@ copied-step {b} {refs} {refs'} {f} {m} c l u = record {
     longer =
         ap (λ (n : ℕ). take n (drop 1 b)) (add-one f) ∙ take-suc (drop 1 b) f 0 (simp length-drop (omega arith))
         ∙ ap (λ (x : ℕ). part b 1 f ++ (x ∷ [])) (getD-drop 1 b f 0)
+
+-- and fewer of them
+pub copied-less : {b refs refs' : List ℕ} {w m : ℕ} (r : ℕ) → Copied b refs w m refs' → r ≤ w → m ≤ length refs → Copied b refs r m refs'
+copied-less {b} {refs} {refs'} {w} {m} r c l u = record {
+  long = c .long;
+  words =
+      sym (take-take (m + r) (m + w) refs' (omega arith)) ∙ ap (take (m + r)) (c .words)
+      ∙ ap (λ (n : ℕ). take (n + r) (take m refs ++ part b 1 w)) (sym (length-take-le m refs u))
+      ∙ take-append-add (take m refs) (part b 1 w) r ∙ ap (λ (xs : List ℕ). take m refs ++ xs) (take-take r w (drop 1 b) l);
+}
 
 -- ---- headers
 

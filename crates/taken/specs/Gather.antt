@@ -45,9 +45,15 @@ pub record Copied (b refs : List ℕ) (r m : ℕ) (refs' : List ℕ) : Type 0 wh
   pub long : length refs' ≡ 4096
   pub words : take (m + r) refs' ≡ take m refs ++ part b 1 r
 
+pub record Putting (b refs : List ℕ) (r m : ℕ) : Type 0 where
+  pub some : 2 ≤ length b
+  pub inside : r < length b
+  pub long : length refs ≡ 4096
+  pub room : m + (length b - 1) ≤ 4096
+
 pub record Adding (i : ℕ) (b refs : List ℕ) (m : ℕ) : Type 0 where
   pub block : length b ≡ block-words i
-  pub some : 0 < block-words i
+  pub some : 2 ≤ block-words i
   pub long : length refs ≡ 4096
   pub room : m + (block-words i - 1) ≤ 4096
 
