@@ -29,11 +29,11 @@ pub fn none_or_taken(row: &[u32; 4096], n: u32, h: u32) -> bool
     ensures { λ r. ⌜ r ≡ row-none-or-taken (now (row .entry)) n h ⌝ }
 {
     let none = (h == 0) as u32;
-    let x = h + none - 1;
-    if 2048 * n <= x {
+    let at = h + none - 1;
+    if 2048 * n <= at {
         return false;
     }
-    ((row[wide(x / 32)] >> (x % 32)) | none) % 2 == 1
+    ((row[wide(at / 32)] >> (at % 32)) | none) % 2 == 1
 }
 
 // The number of taken blocks: the ones of the words of n segments.
