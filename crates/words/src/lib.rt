@@ -8,3 +8,4 @@ pub mod bits;
 pub mod class;
 pub mod fields;
 pub mod handles;
+pub mod slices;

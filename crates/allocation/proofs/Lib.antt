@@ -1,0 +1,5 @@
+pub mod LoopLaws
+pub mod FirstLaws
+pub mod FindLaws
+pub mod GiveLaws
+pub mod AllocateLaws

@@ -1,0 +1,188 @@
+-- The counts and groups of the code are those of a collection: how many blocks of a segment are listed, which segments stay and which of them
+-- are full, and so the new ranks and places.
+-- Assumes nothing.
+use Prim.Native.Nat.{ℕ, _+_, _-_, _≤_, _<_}
+use mathlib.Core.Path.{_≡_, refl, sym, ap, ap₂, _∙_}
+use mathlib.Core.Bool.{Bool, true, false, not, cond, _&&_, _||_, and-true}
+use mathlib.Core.List.{List}
+use native.Mathlib.Omega.{arith}
+use native.Mathlib.Nat.{add-sub-of-le}
+use lib.ListN.{length, getD}
+use lib.Dec.{eqb, ltb}
+use borrow.Author.Tests.{lt-ltb}
+use Rattle.model.specs.Below.{one-if, count-below}
+use Rattle.model.specs.Word.{word}
+use Rattle.model.specs.Class.{blocks}
+use Rattle.model.specs.Layout.{handle}
+use Rattle.model.specs.View.{segments, class, rank}
+use Rattle.model.specs.Standing.{in-pool, is-taken}
+use Rattle.model.specs.Ways.{listed}
+use Rattle.model.specs.Calls.{live, stays, stays-full, staying, staying-full, ranked-before, new-rank, new-place}
+use Rattle.laws.proofs.Below.{count-below-ext, count-below-add, count-below-none}
+use Rattle.words.proofs.ClassLaws.{blocks-most}
+use Rattle.soundness.proofs.Tests.{not-passed}
+use Rattle.soundness.proofs.Facts.{Member, Sound, taken-block}
+use Rattle.soundness.proofs.Ranks.{count-below-parts}
+use Rattle.soundness.proofs.Taken.{is-taken-handle}
+use Rattle.ways.proofs.Listed.{listed-in}
+use Rattle.ranking.specs.Live.{live-in, Live}
+use Rattle.ranking.specs.Groups.{pool, full, rest, any-rank, group-of, Groups, ranks-in, ranked-in, rank-by, place-for, place-by}
+
+pub one-if-le : (t : Bool) → one-if t ≤ 1
+one-if-le true = omega arith
+one-if-le false = omega arith
+
+-- ---- the three groups as tests
+
+gone : ℕ → ℕ → Bool
+gone i n = eqb i 0 || eqb n 0
+
+group-pool : (i n : ℕ) → eqb (group-of i n) pool ≡ gone i n
+unfolding group-of gone
+group-pool i n = go (eqb i 0 || eqb n 0) (eqb n (blocks i))
+  where
+    go : (a b : Bool) → eqb (cond a pool (cond b full rest)) pool ≡ a
+    go true b = refl
+    go false true = refl
+    go false false = refl
+
+group-full : (i n : ℕ) → eqb (group-of i n) full ≡ (not (gone i n) && eqb n (blocks i))
+unfolding group-of gone
+group-full i n = go (eqb i 0 || eqb n 0) (eqb n (blocks i))
+  where
+    go : (a b : Bool) → eqb (cond a pool (cond b full rest)) full ≡ (not a && b)
+    go true b = refl
+    go false true = refl
+    go false false = refl
+
+group-rest : (i n : ℕ) → eqb (group-of i n) rest ≡ (not (gone i n) && not (eqb n (blocks i)))
+unfolding group-of gone
+group-rest i n = go (eqb i 0 || eqb n 0) (eqb n (blocks i))
+  where
+    go : (a b : Bool) → eqb (cond a pool (cond b full rest)) rest ≡ (not a && not b)
+    go true b = refl
+    go false true = refl
+    go false false = refl
+
+not-not : (a : Bool) → not (not a) ≡ a
+not-not true = refl
+not-not false = refl
+
+and-not-and : (a b : Bool) → (a && not b) ≡ (a && not (a && b))
+and-not-and true b = refl
+and-not-and false b = refl
+
+parts : (c a b : Bool) → one-if (c && a) ≡ one-if (c && (a && b)) + one-if (c && (a && not (a && b)))
+parts false a b = refl
+parts true false b = refl
+parts true true true = refl
+parts true true false = refl
+
+-- ---- the list of a collection
+
+module _ (ws L : List ℕ) (sound : Sound ws) (taken : (k : ℕ) → k < length L → is-taken ws (getD L k 0) ≡ true) where
+  -- a listed handle is that of a block
+  pub listed-inside : (s k : ℕ) → k < 2048 → listed L (handle s k) ≡ true → k < blocks (class ws s)
+  listed-inside s k l t =
+      let i = listed-in L (handle s k) t in
+      let at : is-taken ws (handle s k) ≡ true = ap (is-taken ws) (sym (i .2)) ∙ taken (i .0) (i .1) in
+      taken-block ws s k (sym (is-taken-handle ws s k l) ∙ at) .inside
+
+  -- so a segment's listed blocks are its listed handles
+  pub live-is : (s : ℕ) → Member ws s → live ws L s ≡ live-in L s
+  unfolding live live-in
+  live-is s member =
+      let b : ℕ = blocks (class ws s) in
+      let test : ℕ → Bool = λ k. listed L (handle s k) in
+      let most : b ≤ 2048 = blocks-most (class ws s) (sound .classed s member) in
+      omega (
+        arith,
+        ap (λ (x : ℕ). count-below x test) (sym (add-sub-of-le most)) ∙ count-below-add b (2048 - b) test,
+        count-below-none (2048 - b) (λ k. test (b + k)) (λ k u. not-passed (test (b + k)) (λ t. omega (arith, listed-inside s (b + k) (omega arith) t))),
+      )
+
+  module _ (lives groups : List ℕ) (few : segments ws ≤ 64) (counted : Live L lives) (grouped : Groups ws lives groups) where
+    pub lives-is : (s : ℕ) → s < segments ws → in-pool ws s ≡ false → word lives s ≡ live ws L s
+    lives-is s l e = counted .counted s (omega arith) ∙ sym (live-is s (record { below = l; used = e }))
+
+    stays-gone : (s : ℕ) → s < segments ws → stays ws L s ≡ not (gone (class ws s) (word lives s))
+    unfolding stays gone
+    stays-gone s l = go (in-pool ws s) refl
+      where
+        go : (t : Bool) → in-pool ws s ≡ t → (not t && not (eqb (live ws L s) 0)) ≡ not (t || eqb (word lives s) 0)
+        go true e = refl
+        go false e = ap (λ (n : ℕ). not (eqb n 0)) (sym (lives-is s l e))
+
+    full-gone : (s : ℕ) → s < segments ws → stays-full ws L s ≡ (not (gone (class ws s) (word lives s)) && eqb (word lives s) (blocks (class ws s)))
+    unfolding stays-full stays gone
+    full-gone s l = go (in-pool ws s) refl
+      where
+        go : (t : Bool) → in-pool ws s ≡ t
+            → ((not t && not (eqb (live ws L s) 0)) && eqb (live ws L s) (blocks (class ws s))) ≡ (not (t || eqb (word lives s) 0) && eqb (word lives s) (blocks (class ws s)))
+        go true e = refl
+        go false e = ap (λ (n : ℕ). not (eqb n 0) && eqb n (blocks (class ws s))) (sym (lives-is s l e))
+
+    -- the groups are those of a collection
+    pub stays-is : (s : ℕ) → s < segments ws → eqb (word groups s) pool ≡ not (stays ws L s)
+    stays-is s l =
+        ap (λ (g : ℕ). eqb g pool) (grouped .grouped s l) ∙ group-pool (class ws s) (word lives s) ∙ sym (not-not (gone (class ws s) (word lives s)))
+        ∙ ap not (sym (stays-gone s l))
+
+    pub full-is : (s : ℕ) → s < segments ws → eqb (word groups s) full ≡ stays-full ws L s
+    full-is s l = ap (λ (g : ℕ). eqb g full) (grouped .grouped s l) ∙ group-full (class ws s) (word lives s) ∙ sym (full-gone s l)
+
+    pub rest-is : (s : ℕ) → s < segments ws → eqb (word groups s) rest ≡ (stays ws L s && not (stays-full ws L s))
+    rest-is s l =
+        ap (λ (g : ℕ). eqb g rest) (grouped .grouped s l) ∙ group-rest (class ws s) (word lives s)
+        ∙ and-not-and (not (gone (class ws s) (word lives s))) (eqb (word lives s) (blocks (class ws s)))
+        ∙ ap₂ (λ (a b : Bool). a && not b) (sym (stays-gone s l)) (sym (full-gone s l))
+
+    -- ---- how many are in a group, and how many of those are ranked before a segment
+
+    any : (t : ℕ) → ltb (rank ws t) any-rank ≡ true
+    any t = lt-ltb (rank ws t) any-rank (omega arith)
+
+    full-count : (i : ℕ) → ranked-in ws groups i full any-rank ≡ staying-full ws L i
+    unfolding ranked-in staying-full
+    full-count i =
+        count-below-ext (segments ws) (ranks-in ws groups i full any-rank) (λ s. eqb (class ws s) i && stays-full ws L s)
+        (λ t l. ap (λ (b : Bool). eqb (class ws t) i && b) (ap₂ _&&_ (full-is t l) (any t) ∙ and-true (stays-full ws L t)))
+
+    rest-count : (i : ℕ) → ranked-in ws groups i rest any-rank ≡ count-below (segments ws) (λ s. eqb (class ws s) i && (stays ws L s && not (stays-full ws L s)))
+    unfolding ranked-in
+    rest-count i =
+        count-below-ext (segments ws) (ranks-in ws groups i rest any-rank) (λ s. eqb (class ws s) i && (stays ws L s && not (stays-full ws L s)))
+        (λ t l. ap (λ (b : Bool). eqb (class ws t) i && b) (ap₂ _&&_ (rest-is t l) (any t) ∙ and-true (stays ws L t && not (stays-full ws L t))))
+
+    -- those that stay are the full ones and the rest
+    staying-count : (i : ℕ) → ranked-in ws groups i full any-rank + ranked-in ws groups i rest any-rank ≡ staying ws L i
+    unfolding staying staying-full stays-full
+    staying-count i =
+        ap₂ _+_ (full-count i) (rest-count i)
+        ∙ sym (count-below-parts (segments ws) (λ s. eqb (class ws s) i && stays ws L s) (λ s. eqb (class ws s) i && stays-full ws L s)
+        (λ s. eqb (class ws s) i && (stays ws L s && not (stays-full ws L s)))
+        (λ s _. parts (eqb (class ws s) i) (stays ws L s) (eqb (live ws L s) (blocks (class ws s)))))
+
+    full-before : (s : ℕ) → ranked-in ws groups (class ws s) full (rank ws s) ≡ ranked-before ws (stays-full ws L) s
+    unfolding ranked-in ranked-before
+    full-before s =
+        count-below-ext (segments ws) (ranks-in ws groups (class ws s) full (rank ws s))
+        (λ t. eqb (class ws t) (class ws s) && (stays-full ws L t && ltb (rank ws t) (rank ws s)))
+        (λ t l. ap (λ (b : Bool). eqb (class ws t) (class ws s) && (b && ltb (rank ws t) (rank ws s))) (full-is t l))
+
+    rest-before : (s : ℕ) → ranked-in ws groups (class ws s) rest (rank ws s) ≡ ranked-before ws (λ t. stays ws L t && not (stays-full ws L t)) s
+    unfolding ranked-in ranked-before
+    rest-before s =
+        count-below-ext (segments ws) (ranks-in ws groups (class ws s) rest (rank ws s))
+        (λ t. eqb (class ws t) (class ws s) && ((stays ws L t && not (stays-full ws L t)) && ltb (rank ws t) (rank ws s)))
+        (λ t l. ap (λ (b : Bool). eqb (class ws t) (class ws s) && (b && ltb (rank ws t) (rank ws s))) (rest-is t l))
+
+    -- ---- the new ranks and the new places
+
+    pub rank-is : (s : ℕ) → s < segments ws → rank-by ws groups s ≡ new-rank ws L s
+    unfolding rank-by new-rank
+    rank-is s l = rw (full-is s l, full-before s, full-count (class ws s), rest-before s)
+
+    pub place-is : (i : ℕ) → place-by ws groups i ≡ new-place ws L i
+    unfolding place-by place-for new-place
+    place-is i = rw (staying-count i, full-count i)

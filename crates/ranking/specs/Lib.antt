@@ -1,0 +1,5 @@
+pub mod Live
+pub mod Groups
+pub mod Records
+pub mod Marks
+pub mod Anew

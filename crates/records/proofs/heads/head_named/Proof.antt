@@ -1,0 +1,14 @@
+-- `records::heads::head_named` meets its contract: it asks what the definition asks.
+-- Assumes nothing.
+use borrow.Author.Needs.{needs}
+use Rattle.records.proofs.heads.head_named.Statement.{statement}
+use Rattle.records.proofs.heads.head_named.Tie as tie
+
+head-of-requires : tie.Need-head-of-requires
+head-of-requires c κs = search needs
+
+returns : tie.Need-returns
+returns c = cc
+
+pub head-named-spec : {M : Type 1} → statement M
+head-named-spec = tie.close (tie.spec head-of-requires returns)

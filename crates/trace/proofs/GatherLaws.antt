@@ -1,0 +1,111 @@
+-- Gathering: copies of words, and the references of a taken block.
+-- Assumes nothing.
+use Prim.Native.Nat.{ℕ, zero, suc, _+_, _-_, _*_, _≤_, _<_}
+use mathlib.Core.Path.{_≡_, refl, sym, ap, ap₂, _∙_}
+use mathlib.Core.Logic.{_≢_}
+use mathlib.Core.Bool.{Bool, true, not}
+use mathlib.Core.List.{List, [], _∷_, _++_, append-assoc}
+use native.Mathlib.Nat.{le-refl}
+use native.Mathlib.Omega.{arith}
+use native.Mathlib.Numerals.{add-one}
+use lib.Dec.{eqb}
+use lib.ListN.{length, getD, take, drop, set, length-append}
+use lib.Seq.{paste, paste-suc, take-length, length-take-le, take-at, ext-getD}
+use borrow.Author.Tests.{eqb-false, not-true}
+use Rattle.model.specs.Below.{words-below, lists-below}
+use Rattle.model.specs.Word.{word, part, put}
+use Rattle.model.specs.Class.{block-words}
+use Rattle.model.specs.Layout.{segment-of, index-of, block-at}
+use Rattle.model.specs.View.{segments, class, block, block-of, n-in, r-in, reference-in}
+use Rattle.model.specs.Standing.{taken-at, is-taken, none-or-taken}
+use Rattle.model.specs.Sound.{sound}
+use Rattle.laws.proofs.Below.{length-words-below, word-words-below}
+use Rattle.laws.proofs.Splice.{length-part, word-part}
+use Rattle.words.proofs.ClassLaws.{class-bounds, class-high, class-room}
+use Rattle.arena.specs.Inside.{Segment, Block}
+use Rattle.soundness.proofs.Tests.{and-left, and-right}
+use Rattle.soundness.proofs.Facts.{sound-facts, taken-block, block-length}
+use Rattle.trace.specs.Gather.{Behind, references-of, references-of-all}
+
+-- ---- a copy
+
+-- one word more
+pub paste-more : (d : List ℕ) (at : ℕ) (s : List ℕ) (j : ℕ) → at + j < length d → j < length s
+    → set (paste d at s j) (at + j) (getD s j 0) ≡ paste d at s (j + 1)
+paste-more d at s j hd hs = rw add-one (paste-suc d at s j 0 hd hs)
+
+-- all of them
+pub paste-all : (d : List ℕ) (at : ℕ) (s : List ℕ) → paste d at s (length s) ≡ put d at s
+paste-all d at s = rw (take-length s) (append-assoc (take at d) s (drop (at + length s) d))
+
+-- words in a row, one by one
+pub part-words : (ws : List ℕ) (o n : ℕ) → o + n ≤ length ws → part ws o n ≡ words-below n (λ k. word ws (o + k))
+part-words ws o n h =
+    let f : ℕ → ℕ = λ k. word ws (o + k) in
+    ext-getD 0 (part ws o n) (words-below n f) (length-part ws o n h ∙ sym (length-words-below n f))
+    (λ k l. let u : k < n = omega (arith, length-part ws o n h) in word-part ws o n k u ∙ sym (word-words-below n f k u))
+
+-- the words that were copied, behind what stood before them
+pub copied : (block row : List ℕ) (end r : ℕ) (row' : List ℕ) → r < length block → end ≤ length row →
+    row' ≡ put row end (take (1 + r - 1) (drop 1 block)) → Behind (words-below r (reference-in block)) row end (end + r) row'
+copied block row end r row' h l e =
+    let f : ℕ → ℕ = reference-in block in
+    let size : 1 + r - 1 ≡ r = omega arith in
+    let words : take (1 + r - 1) (drop 1 block) ≡ words-below r f = ap (λ (n : ℕ). take n (drop 1 block)) size ∙ part-words block 1 r (omega arith) in
+    record {
+      count = rw (length-words-below r f);
+      words = rw (e, words, ← append-assoc) (take-at (take end row ++ words-below r f) _ (end + r)
+          (length-append (take end row) (words-below r f) ∙ ap₂ _+_ (length-take-le end row l) (length-words-below r f)));
+    }
+
+-- one block more
+pub one-more : (ws queue : List ℕ) (n end end' : ℕ) (row row' : List ℕ) → take end row ≡ references-of-all ws queue n →
+    Behind (references-of ws (getD queue n 0)) row end end' row' → take end' row' ≡ references-of-all ws queue (n + 1)
+unfolding lists-below
+one-more ws queue n end end' row row' e b = rw (add-one, b .words, e)
+
+-- ---- a taken block
+
+-- what is known of the taken block of handle h in a sound arena: where it lies, and what references it has
+pub record Inside (ws : List ℕ) (h : ℕ) : Type 0 where
+  pub some : 0 < h
+  pub its-segment : Segment ws (segment-of h)
+  pub its-block : Block ws (segments ws) (segment-of h) (class ws (segment-of h)) (index-of h)
+  pub room : r-in (block ws h) < length (block ws h)
+  pub most : r-in (block ws h) ≤ 1023
+  pub references : (f : ℕ) → f < r-in (block ws h) → none-or-taken ws (reference-in (block ws h) f) ≡ true
+
+taken-there : (ws : List ℕ) (h : ℕ) → is-taken ws h ≡ true → (h ≢ 0) × (taken-at ws (segment-of h) (index-of h) ≡ true)
+unfolding is-taken
+taken-there ws h t =
+    let at : Bool = taken-at ws (segment-of h) (index-of h) in
+    (eqb-false h 0 (not-true (eqb h 0) (and-left (not (eqb h 0)) at t)), and-right (not (eqb h 0)) at t)
+
+pub taken-inside : (ws : List ℕ) (h : ℕ) → sound ws ≡ true → is-taken ws h ≡ true → Inside ws h
+taken-inside ws h right taken =
+    let s : ℕ = segment-of h in
+    let k : ℕ = index-of h in
+    let facts = sound-facts ws right in
+    let z = facts .size in
+    let there = taken-there ws h taken in
+    let n : h ≢ 0 = there .0 in
+    let b = taken-block ws s k (there .1) in
+    let c = facts .classed s (b .member) in
+    let bounds = class-bounds (class ws s) c in
+    let shape = facts .right s k (there .1) in
+    let long = block-length ws z s k c b in
+    let small : n-in (block ws h) ≤ 1023 = class-high (n-in (block ws h)) .0 (rw (shape .fits) (bounds .1)) in
+    record {
+      some = omega arith;
+      its-segment = record { few = z .few; long = z .long; there = b .member .below };
+      its-block = record { few = z .few; long = z .long; there = b .member .below; low = bounds .0; high = bounds .1; inside = b .inside };
+      room = omega (arith, shape .within, class-room (n-in (block ws h)) (class ws s) (shape .fits));
+      most = omega (arith, shape .within);
+      references = shape .references;
+    }
+
+-- the part that is cut out is the block
+pub block-is : (ws : List ℕ) (N s i k h : ℕ) → N ≡ segments ws → s ≡ segment-of h → i ≡ class ws s → k ≡ index-of h →
+    part ws (block-at N s i k) (block-words i) ≡ block ws h
+unfolding block-of
+block-is ws N s i k h eN es ei ek = cc

@@ -1,0 +1,4 @@
+pub mod MarkLaws
+pub mod GatherLaws
+pub mod ListLaws
+pub mod TraceLaws

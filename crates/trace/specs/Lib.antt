@@ -1,0 +1,4 @@
+pub mod Marks
+pub mod Gather
+pub mod List
+pub mod Trace
