@@ -1,6 +1,5 @@
 // Asking a row: is a handle that of a taken block, and how many blocks are taken.
 ghost use mathlib.Core.Path.{_≡_};
-ghost use mathlib.Core.Bool.{_||_};
 ghost use Prim.Native.Nat.{_*_, _≤_};
 ghost use Rattle.model.specs.Below.{count-below};
 ghost use Rattle.taken.specs.Row.{row-bit, row-taken, row-none-or-taken};

@@ -4,7 +4,6 @@
 // its references are put end to end into a row, of which a segment needs less than 4,096 words: a block has room
 // for its header besides.
 ghost use mathlib.Core.Path.{_≡_};
-ghost use mathlib.Core.Bool.{true};
 ghost use Prim.Native.Nat.{_+_, _*_, _<_};
 ghost use lib.ListN.{length};
 ghost use Rattle.model.specs.Class.{blocks};
