@@ -17,13 +17,7 @@ use words::fields::record_class;
 use words::fields::record_count;
 use words::fields::record_rank;
 use words::handles::offset;
-
-// A number as a place in a slice.
-pub fn wide(x: u32) -> usize
-    ensures { λ r. ⌜ r ≡ x ⌝ }
-{
-    x as usize
-}
+use words::slices::wide;
 
 pub fn segments(arena: &[u32]) -> u32
     requires { ⌜ 0 < length (now arena) ⌝ }

@@ -11,7 +11,7 @@ use Rattle.model.specs.Word.{put}
 use Rattle.model.specs.Class.{blocks}
 use Rattle.model.specs.Layout.{handle, segment-of, index-of}
 use Rattle.model.specs.View.{class, block-of, offset, block, n-in, r-in}
-use Rattle.model.specs.Standing.{is-block, is-taken, none-or-taken, standing-of}
+use Rattle.model.specs.Standing.{is-block, is-taken, none-or-taken, taken-count, standing-of}
 use Rattle.model.specs.Sound.{sound}
 use Rattle.model.specs.Numbers.{Paper, paper, refuse, written-paper}
 use Rattle.model.specs.Calls.{Outcome, WriteReference, WritePlain}
@@ -20,13 +20,14 @@ use Rattle.model.specs.declared.Written.the-variants.{Done}
 use Rattle.words.proofs.HandleLaws.{handle-segment, handle-index, handle-back}
 use Rattle.soundness.proofs.Facts.{Block, block-facts, sound-facts, facts-sound}
 use Rattle.soundness.proofs.Taken.{handle-facts}
-use Rattle.soundness.proofs.Views.{same-is-taken}
+use Rattle.soundness.proofs.Views.{same-is-taken, same-taken-count}
 use Rattle.soundness.proofs.Writes as writes
 
 -- word o of block h becomes v, and nothing else changes
 pub record Kept (ws : List ℕ) (h o v : ℕ) (ws' : List ℕ) : Type 0 where
   pub still-sound : sound ws' ≡ true
   pub same-taken : (g : ℕ) → is-taken ws' g ≡ is-taken ws g
+  pub same-count : taken-count ws' ≡ taken-count ws
   pub own : block ws' h ≡ put (block ws h) o (v ∷ [])
   pub others : (s k : ℕ) → is-block ws s k ≡ true → handle s k ≢ h → block-of ws' s k ≡ block-of ws s k
 
@@ -35,6 +36,7 @@ kept : (ws : List ℕ) (h o v : ℕ) (ws' : List ℕ) → 0 < h → writes.Writt
 kept ws h o v ws' some w = record {
   still-sound = facts-sound ws' (w .sound-after);
   same-taken = same-is-taken ws' ws (w .front);
+  same-count = same-taken-count ws' ws (w .front);
   own = w .own;
   others = λ s k b apart.
       w .others s k (block-facts ws s k b)

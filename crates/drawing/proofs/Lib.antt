@@ -1,7 +1,9 @@
 pub mod Collecting
 pub mod FieldReads
+pub mod History
 pub mod Judged
 pub mod Kept
+pub mod Made
 pub mod Outcomes
 pub mod RefusalNumbers
 pub mod Refusals

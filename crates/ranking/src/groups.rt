@@ -9,8 +9,8 @@ ghost use Rattle.ranking.specs.Groups.{Whole, group-of, Groups, ranks-in
 use arena::class;
 use arena::rank;
 use arena::segments;
-use arena::wide;
 use words::class::blocks;
+use words::slices::wide;
 
 pub const POOL: u32 = 0;
 

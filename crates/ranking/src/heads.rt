@@ -11,8 +11,8 @@ use crate::groups::ranked_in;
 use arena::class;
 use arena::rank;
 use arena::segments;
-use arena::wide;
 use words::fields::record_head;
+use words::slices::wide;
 
 // "Full ones first, then the rest, each group in its former order."
 fn new_rank(arena: &[u32], groups: &[u32; 64], s: u32) -> u32

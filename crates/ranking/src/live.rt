@@ -5,9 +5,9 @@ ghost use lib.ListN.{set};
 ghost use Rattle.model.specs.Word.{word};
 ghost use Rattle.model.specs.Layout.{segment-of};
 ghost use Rattle.ranking.specs.Live.{Handles, Live};
-use arena::wide;
 use model::Handle;
 use words::handles::segment;
+use words::slices::wide;
 
 // One block more in its segment.
 fn add(lives: &mut [u32; 64], h: u32)

@@ -6,11 +6,11 @@ ghost use Rattle.model.specs.View.{segments};
 ghost use Rattle.ranking.specs.Records.{with-records};
 ghost use Rattle.ranking.specs.Marks.{marked-one, marked, Mark, Marks};
 use arena::class;
-use arena::wide;
 use bitmap::climb::set_bit;
 use model::Handle;
 use words::handles::index;
 use words::handles::segment;
+use words::slices::wide;
 
 // Sets the bit of a block, on the words of its segment's record.
 fn mark(arena: &mut [u32], h: u32)

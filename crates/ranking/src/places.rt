@@ -7,9 +7,9 @@ use crate::groups::ANY_RANK;
 use crate::groups::FULL;
 use crate::groups::REST;
 use crate::groups::ranked_in;
-use arena::wide;
 use words::class::blocks;
 use words::fields::place;
+use words::slices::wide;
 
 // "The place is (rank of the first segment that isn't full, 0); if all m are full, (m - 1, number of blocks); if m = 0, (0, 0)."
 // The full ones of the class's m segments stand first.

@@ -1,25 +1,15 @@
 // The new records, before any bit is set in them.
 ghost use mathlib.Core.Path.{_≡_};
-ghost use lib.ListN.{length, replicate};
 ghost use Rattle.model.specs.Word.{word, put};
 ghost use Rattle.model.specs.Layout.{record-at};
 ghost use Rattle.model.specs.View.{segments};
 ghost use Rattle.ranking.specs.Records.{with-records, bare-record, BareRecord, WriteRecord, WriteRecords};
 use arena::segments;
-use arena::wide;
 use bitmap::fresh::fresh;
 use words::fields::record_class;
 use words::fields::record_rank;
-
-fn clear(rec: &mut [u32])
-    ensures { λ _. ⌜ now (rec .exit) ≡ replicate (length (now (rec .entry))) 0 ⌝ }
-{
-    let mut o = 0;
-    while o < rec.len() {
-        rec[o] = 0;
-        o += 1;
-    }
-}
+use words::slices::clear;
+use words::slices::wide;
 
 // "Segments with count 0 go to the pool": their whole record is 0. Any other has its head, and no bit set.
 fn bare_record(rec: &mut [u32], head: u32)

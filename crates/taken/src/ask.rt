@@ -3,9 +3,9 @@ ghost use mathlib.Core.Path.{_≡_};
 ghost use Prim.Native.Nat.{_*_, _≤_};
 ghost use Rattle.model.specs.Below.{count-below};
 ghost use Rattle.taken.specs.Row.{row-bit, row-taken, row-none-or-taken};
-use arena::wide;
 use words::bits::bit;
 use words::bits::ones;
+use words::slices::wide;
 
 // The handle of a taken block, in an arena of n segments.
 pub fn is_taken(row: &[u32; 4096], n: u32, h: u32) -> bool

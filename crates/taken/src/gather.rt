@@ -9,12 +9,12 @@ ghost use lib.ListN.{length};
 ghost use Rattle.model.specs.Class.{blocks};
 ghost use Rattle.taken.specs.Gather.{header-right, Copying, Copied, Putting, Adding, Added, GatheredBelow, AtBlock, AtWord, AtSegment};
 use arena::block_of;
-use arena::wide;
 use model::BlockIndex;
 use words::class::blocks;
 use words::class::class_of;
 use words::fields::header_n;
 use words::fields::header_r;
+use words::slices::wide;
 
 // What was gathered: whether all headers are right, and how many references there are if they are.
 pub struct Gathered {

@@ -14,10 +14,10 @@ use arena::place_of;
 use arena::rank;
 use arena::record_of;
 use arena::segments;
-use arena::wide;
 use words::class::blocks;
 use words::fields::place_index;
 use words::fields::place_rank;
+use words::slices::wide;
 
 // The word whose bit b is 1 exactly if 32 j + b is below the limit.
 fn below(limit: u32, j: u32) -> u32

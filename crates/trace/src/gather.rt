@@ -8,11 +8,11 @@ ghost use Rattle.model.specs.View.{r-in, reference-in};
 ghost use Rattle.trace.specs.Gather.{references-of, Masked, Taken, Room, Behind, FirstEight, Queued, Gathered};
 use arena::block_of;
 use arena::class;
-use arena::wide;
 use model::Handle;
 use words::fields::header_r;
 use words::handles::index;
 use words::handles::segment;
+use words::slices::wide;
 
 // Copies words into a row, from place `at` on.
 pub fn copy(from: &[u32], row: &mut [u32], at: usize)

@@ -7,7 +7,7 @@ ghost use Rattle.ways.proofs.Put.{put-all};
 ghost use Rattle.trace.specs.List.{On, Root, PutRoot, Roots, Handles, Kept};
 use crate::marks::clear;
 use crate::marks::mark;
-use arena::wide;
+use words::slices::wide;
 
 // The root at a position.
 fn root_at(roots: &[u32], p: usize) -> u32

@@ -8,7 +8,7 @@ ghost use lib.Dec.{eqb};
 ghost use Rattle.model.specs.Below.{one-if};
 ghost use Rattle.model.specs.Word.{bit};
 ghost use Rattle.trace.specs.Marks.{Marked, Row, Mark};
-use arena::wide;
+use words::slices::wide;
 
 // No block of an arena of n segments is marked.
 pub fn clear(marks: &mut [u32], n: u32)
