@@ -1,9 +1,10 @@
-pub mod FieldReads
-pub mod Judged
+pub mod FieldLaws
 pub mod Kept
+pub mod LookLaws
 pub mod Outcomes
+pub mod PutLaws
 pub mod Refusals
 pub mod RoomLaws
 pub mod Sizes
-pub mod Standings
+pub mod StandingLaws
 pub mod Unique

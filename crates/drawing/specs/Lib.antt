@@ -1,1 +1,4 @@
-pub mod Ruled
+pub mod Fields
+pub mod Look
+pub mod Put
+pub mod Rooms
