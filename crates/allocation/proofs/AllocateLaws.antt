@@ -1,21 +1,19 @@
 -- What is found and given is what document 01 promises of allocate behind refusals 2 and 3.
 -- Assumes nothing.
 use Prim.Native.Nat.{ℕ, _<_}
-use mathlib.Core.Path.{_≡_, refl, sym, ap, ap₂, _∙_, subst}
+use mathlib.Core.Path.{_≡_, sym, ap, ap₂, _∙_, subst}
 use mathlib.Core.Bool.{true, false, _||_}
-use mathlib.Core.List.{List, [], _∷_}
+use mathlib.Core.List.{List}
 use native.Mathlib.Omega.{arith}
 use borrow.Author.Tests.{le-ltb}
-use Rattle.model.specs.Class.{is-class, blocks, class-of}
+use Rattle.model.specs.Class.{is-class, class-of}
 use Rattle.model.specs.Layout.{handle}
-use Rattle.model.specs.View.{segments}
 use Rattle.model.specs.Calls.{class-has-untaken, has-pool, given-segment, given-index, allocated, allocate-refusal, Allocate}
-use Rattle.model.specs.declared.Shape.{Shape}
 use Rattle.model.specs.declared.Handle.{Handle}
 use Rattle.model.specs.declared.Allocated.the-variants.{Block, NoRoom as no-room}
 use Rattle.words.proofs.ClassLaws.{class-small, blocks-most}
 use Rattle.soundness.proofs.Tests.{or-left, or-right, or-fails}
-use Rattle.soundness.proofs.Facts.{sound-facts}
+use Rattle.soundness.proofs.Facts.{Sound, sound-facts}
 use Rattle.allocation.specs.declared.find.Spot.{Spot}
 use Rattle.allocation.specs.declared.find.Found.{Found}
 use Rattle.allocation.specs.declared.find.Found.the-variants.{Here, Joins, NoRoom}
@@ -34,8 +32,7 @@ module _ (ws : List ℕ) (n r : ℕ) (h : Allowed ws n r) where
   unfolding allocate-refusal
   refused t = simp (h .is-sound, le-ltb 1023 n (h .small), le-ltb n r (h .within), t)
 
-  -- ---- the outcomes
-
+  -- and the outcome then
   given-outcome : (tag : ℕ) (g : Handle) (ws' : List ℕ) → (class-has-untaken ws (class-of n) || has-pool ws) ≡ true
       → g .0 ≡ handle (given-segment ws (class-of n)) (given-index ws (class-of n)) → ws' ≡ allocated ws n r tag → Allocate ws n r tag (Block g) ws'
   given-outcome tag g ws' t eg ew = record {
@@ -43,70 +40,99 @@ module _ (ws : List ℕ) (n r : ℕ) (h : Allowed ws n r) where
     words = rw (granted t) ew;
   }
 
-  none-outcome : (tag : ℕ) → class-has-untaken ws (class-of n) ≡ false → has-pool ws ≡ false → Allocate ws n r tag no-room ws
-  none-outcome tag f g =
-      let t = or-fails (class-has-untaken ws (class-of n)) (has-pool ws) f g in
-      record { answered = rw (refused t); words = rw (refused t) }
+  none-outcome : (tag : ℕ) → (class-has-untaken ws (class-of n) || has-pool ws) ≡ false → Allocate ws n r tag no-room ws
+  none-outcome tag t = record { answered = rw (refused t); words = rw (refused t) }
 
-  -- ---- the ways of the search, for a class i that is that of n
+-- ---- what the search asks
 
-  module _ (i : ℕ) (e : i ≡ class-of n) where
-    class-is : is-class i ≡ true
-    class-is = ap is-class e ∙ class-small n (h .small)
+shape-class : (ws : List ℕ) (n r i : ℕ) → Allowed ws n r → i ≡ class-of n → is-class i ≡ true
+shape-class ws n r i h e = ap is-class e ∙ class-small n (h .small)
 
-    pub asks : Search ws i
-    asks = record { is-sound = h .is-sound; class = class-is }
+pub search-asked : {ws : List ℕ} {n r i : ℕ} → Allowed ws n r → i ≡ class-of n → Search ws i
+search-asked {ws} {n} {r} {i} h e = record { is-sound = h .is-sound; class = shape-class ws n r i h e }
 
-    -- the handle of the block that is given
-    handle-is : (spot : Spot) (g : Handle) → Given ws i spot → g .0 ≡ handle (spot .segment) (spot .index .0)
-        → g .0 ≡ handle (given-segment ws (class-of n)) (given-index ws (class-of n))
-    handle-is spot g given eg =
-        eg ∙ ap₂ handle (given .segment ∙ ap (given-segment ws) e) (given .index ∙ ap (given-index ws) e)
+-- ---- what it found
 
-    module _ (found : Found) (finds : Finds ws i found) (spot : Spot) (tag : ℕ) where
-      abbrev shape : Shape
-      shape = record { n = n; r = r; tag = tag }
+-- for a shape of class i
+pub record Searched (ws : List ℕ) (n r i : ℕ) (found : Found) : Type 0 where
+  pub allowed : Allowed ws n r
+  pub class : i ≡ class-of n
+  pub finds : Finds ws i found
 
-      module _ (is : found ≡ Here spot) where
-        here : (class-has-untaken ws i ≡ true) × Given ws i spot
-        here = subst (Finds ws i) is finds
+module _ {ws : List ℕ} {n r i : ℕ} {found : Found} (s : Searched ws n r i found) where
+  facts : Sound ws
+  facts = sound-facts ws (s .allowed .is-sound)
 
-        pub gives-here : GiveHere ws i spot shape
-        gives-here = record { is-sound = h .is-sound; small = h .small; within = h .within; class = e; some = here .0; given = here .1 }
+  class-is : is-class i ≡ true
+  class-is = shape-class ws n r i (s .allowed) (s .class)
 
-        pub fits-here : (spot .segment < 64) × (spot .index .0 < 2048)
-        fits-here =
-            let facts = sound-facts ws (h .is-sound) in (
-              omega (arith, here .1 .segment, here-segment ws facts i class-is (here .0), facts .size .few),
-              omega (arith, here .1 .index, here-index ws facts i class-is (here .0), blocks-most i class-is),
-            )
+  -- the class has an untaken block as that of n has one
+  same-has : class-has-untaken ws (class-of n) ≡ class-has-untaken ws i
+  same-has = ap (class-has-untaken ws) (sym (s .class))
 
-        pub outcome-here : (g : Handle) (ws' : List ℕ) → g .0 ≡ handle (spot .segment) (spot .index .0) → ws' ≡ allocated ws n r tag
-            → Allocate ws n r tag (Block g) ws'
-        outcome-here g ws' eg ew =
-            given-outcome tag g ws' (or-left (class-has-untaken ws (class-of n)) (has-pool ws) (ap (class-has-untaken ws) (sym e) ∙ here .0))
-            (handle-is spot g (here .1) eg) ew
+  -- the handle of the block that is given
+  handle-is : (spot : Spot) (g : Handle) → Given ws i spot → g .0 ≡ handle (spot .segment) (spot .index .0)
+      → g .0 ≡ handle (given-segment ws (class-of n)) (given-index ws (class-of n))
+  handle-is spot g given eg =
+      eg ∙ ap₂ handle (given .segment ∙ ap (given-segment ws) (s .class)) (given .index ∙ ap (given-index ws) (s .class))
 
-      module _ (is : found ≡ Joins spot) where
-        joins : (class-has-untaken ws i ≡ false) × (has-pool ws ≡ true) × Given ws i spot
-        joins = subst (Finds ws i) is finds
+  -- an untaken block of the class's own segments
+  module _ {spot : Spot} (is : found ≡ Here spot) where
+    here : (class-has-untaken ws i ≡ true) × Given ws i spot
+    here = subst (Finds ws i) is (s .finds)
 
-        pub gives-joining : GiveJoining ws i spot shape
-        gives-joining = record { is-sound = h .is-sound; small = h .small; within = h .within; class = e; none = joins .0; pool = joins .1; given = joins .2 }
+    pub give-asked : {tag : ℕ} → GiveHere ws i spot (record { n = n; r = r; tag = tag })
+    give-asked = record {
+      is-sound = s .allowed .is-sound;
+      small = s .allowed .small;
+      within = s .allowed .within;
+      class = s .class;
+      some = here .0;
+      given = here .1;
+    }
 
-        pub fits-joining : (spot .segment < 64) × (spot .index .0 < 2048)
-        fits-joining =
-            let facts = sound-facts ws (h .is-sound) in (
-              omega (arith, joins .2 .segment, pool-segment ws facts i class-is (joins .0) (joins .1), facts .size .few),
-              omega (arith, joins .2 .index, pool-index ws facts i class-is (joins .0) (joins .1), blocks-most i class-is),
-            )
+    pub handle-asked : (spot .segment < 64) × (spot .index .0 < 2048)
+    handle-asked = (
+      omega (arith, here .1 .segment, here-segment ws facts i class-is (here .0), facts .size .few),
+      omega (arith, here .1 .index, here-index ws facts i class-is (here .0), blocks-most i class-is),
+    )
 
-        pub outcome-joining : (g : Handle) (ws' : List ℕ) → g .0 ≡ handle (spot .segment) (spot .index .0) → ws' ≡ allocated ws n r tag
-            → Allocate ws n r tag (Block g) ws'
-        outcome-joining g ws' eg ew =
-            given-outcome tag g ws' (or-right (class-has-untaken ws (class-of n)) (has-pool ws) (joins .1)) (handle-is spot g (joins .2) eg) ew
+    pub given-here : (tag : ℕ) (g : Handle) {ws' : List ℕ} → g .0 ≡ handle (spot .segment) (spot .index .0) → ws' ≡ allocated ws n r tag
+        → Allocate ws n r tag (Block g) ws'
+    given-here tag g {ws'} eg ew =
+        given-outcome ws n r (s .allowed) tag g ws' (or-left (class-has-untaken ws (class-of n)) (has-pool ws) (same-has ∙ here .0))
+        (handle-is spot g (here .1) eg) ew
 
-    pub outcome-none : (found : Found) → Finds ws i found → found ≡ NoRoom → (tag : ℕ) → Allocate ws n r tag no-room ws
-    outcome-none found finds is tag =
-        let none : (class-has-untaken ws i ≡ false) × (has-pool ws ≡ false) = subst (Finds ws i) is finds in
-        none-outcome tag (ap (class-has-untaken ws) (sym e) ∙ none .0) (none .1)
+  -- block 0 of a pool segment that joins
+  module _ {spot : Spot} (is : found ≡ Joins spot) where
+    joins : (class-has-untaken ws i ≡ false) × (has-pool ws ≡ true) × Given ws i spot
+    joins = subst (Finds ws i) is (s .finds)
+
+    pub joining-asked : {tag : ℕ} → GiveJoining ws i spot (record { n = n; r = r; tag = tag })
+    joining-asked = record {
+      is-sound = s .allowed .is-sound;
+      small = s .allowed .small;
+      within = s .allowed .within;
+      class = s .class;
+      none = joins .0;
+      pool = joins .1;
+      given = joins .2;
+    }
+
+    pub joining-handle-asked : (spot .segment < 64) × (spot .index .0 < 2048)
+    joining-handle-asked = (
+      omega (arith, joins .2 .segment, pool-segment ws facts i class-is (joins .0) (joins .1), facts .size .few),
+      omega (arith, joins .2 .index, pool-index ws facts i class-is (joins .0) (joins .1), blocks-most i class-is),
+    )
+
+    pub given-joining : (tag : ℕ) (g : Handle) {ws' : List ℕ} → g .0 ≡ handle (spot .segment) (spot .index .0) → ws' ≡ allocated ws n r tag
+        → Allocate ws n r tag (Block g) ws'
+    given-joining tag g {ws'} eg ew =
+        given-outcome ws n r (s .allowed) tag g ws' (or-right (class-has-untaken ws (class-of n)) (has-pool ws) (joins .1))
+        (handle-is spot g (joins .2) eg) ew
+
+  -- neither
+  pub none-given : (tag : ℕ) → found ≡ NoRoom → Allocate ws n r tag no-room ws
+  none-given tag is =
+      let none : (class-has-untaken ws i ≡ false) × (has-pool ws ≡ false) = subst (Finds ws i) is (s .finds) in
+      none-outcome ws n r (s .allowed) tag (or-fails (class-has-untaken ws (class-of n)) (has-pool ws) (same-has ∙ none .0) (none .1))

@@ -20,8 +20,9 @@ use Rattle.soundness.proofs.Tests.Order.{is-below, is-same, is-above}
 use Rattle.soundness.proofs.Facts.{Sound, sound-facts, record-length}
 use Rattle.soundness.proofs.Ranks.{ranked-class, ranked-member}
 use Rattle.arena.specs.Inside.{Segment}
+use Rattle.records.specs.Judged.{Sized}
 use Rattle.bitmap.specs.Tree.{FirstFree}
-use Rattle.allocation.specs.Spots.{Whole, Search, FreeAt, Free, AtPlace, Joining, Given, Finds}
+use Rattle.allocation.specs.Spots.{Whole, Search, FreeAt, Free, AtPlace, Joining, Finds}
 use Rattle.allocation.specs.declared.find.Spot.{Spot}
 use Rattle.allocation.specs.declared.find.Found.the-variants.{Here, Joins, NoRoom}
 use Rattle.allocation.proofs.FirstLaws.{none-earlier, first-at-place, first-behind, some-behind, has-at, segment-at, rank-at, index-at, has-none}
@@ -32,6 +33,19 @@ pub whole : (ws : List ℕ) → sound ws ≡ true → Whole ws
 whole ws t =
     let size = sound-facts ws t .size in
     record { few = size .few; long = size .long }
+
+pub members-asked : (ws : List ℕ) → sound ws ≡ true → Sized ws
+members-asked ws t =
+    let size = sound-facts ws t .size in
+    record { some = size .some; few = size .few; long = size .long }
+
+pub place-asked : (ws : List ℕ) (i m : ℕ) → Search ws i → m ≡ members ws i → m ≢ 0 → AtPlace ws i
+place-asked ws i m h e some = record { is-sound = h .is-sound; class = h .class; some = omega (arith, e, some) }
+
+pub joining-asked : (ws : List ℕ) (i m : ℕ) → Search ws i → m ≡ members ws i → class-has-untaken ws i ≡ false → Joining ws i m
+joining-asked ws i m h e none =
+    let size = whole ws (h .is-sound) in
+    record { few = size .few; long = size .long; none = none; next = e }
 
 -- the segment of a rank is one of the arena's, and its record is one in which a free block can be searched
 pub segment-ranked : (ws : List ℕ) (i q k s : ℕ) → FreeAt ws i q k → s ≡ ranked ws i q → Segment ws s

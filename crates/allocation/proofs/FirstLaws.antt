@@ -1,22 +1,22 @@
 -- The first untaken block of a class of a sound arena: none before the place, in the place's own segment the first free one at or after its
 -- index, and in the segment behind it the first free one, which there is.
 -- Assumes nothing.
-use Prim.Native.Nat.{ℕ, _+_, _-_, _≤_, _<_, zero-le}
-use mathlib.Core.Path.{_≡_, refl, sym, ap, ap₂, _∙_}
-use mathlib.Core.Bool.{Bool, true, false, not, cond, _||_}
+use Prim.Native.Nat.{ℕ, _-_, _≤_, _<_, zero-le}
+use mathlib.Core.Path.{_≡_, sym, ap, _∙_}
+use mathlib.Core.Bool.{Bool, true, false, not, _||_}
 use mathlib.Core.List.{List}
 use native.Mathlib.Nat.{sub-zero}
 use native.Mathlib.Omega.{arith}
 use native.Mathlib.Decide.{decLt}
-use lib.Dec.{eqb, ltb}
-use borrow.Author.Tests.{lt-ltb, le-ltb, ltb-true}
+use lib.Dec.{ltb}
+use borrow.Author.Tests.{lt-ltb, le-ltb}
 use Rattle.model.specs.Below.{count-below, first-from, first-below}
 use Rattle.model.specs.Class.{is-class, blocks}
-use Rattle.model.specs.View.{segments, place-rank, place-index, class, rank, count, bit-of, members, ranked}
+use Rattle.model.specs.View.{segments, place-rank, place-index, class, rank, bit-of, members, ranked}
 use Rattle.model.specs.Standing.{taken-at}
-use Rattle.model.specs.Calls.{first-untaken, has-untaken, first-rank, class-has-untaken, first-pool, has-pool, given-segment, given-rank, given-index}
-use Rattle.laws.proofs.Below.{First, first-is, first-unique, first-ext, count-below-fails}
-use Rattle.soundness.proofs.Tests.{or-left, never}
+use Rattle.model.specs.Calls.{first-untaken, has-untaken, first-rank, class-has-untaken, given-segment, given-rank, given-index}
+use Rattle.laws.proofs.Below.{First, first-is, first-unique, count-below-fails}
+use Rattle.soundness.proofs.Tests.{or-left}
 use Rattle.soundness.proofs.Facts.{Member, Block, Sound}
 use Rattle.soundness.proofs.Ranks.{first-found, ranked-class, ranked-rank, ranked-member}
 use Rattle.soundness.proofs.Taken.{taken-earlier, taken-at-place, taken-behind}

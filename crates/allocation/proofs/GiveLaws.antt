@@ -1,7 +1,7 @@
 -- The words that giving a block leaves: a block's own, those of the arena with a lent part written, and those that document 01 says an
 -- allocation leaves.
 -- Assumes nothing.
-use Prim.Native.Nat.{ℕ, zero, suc, _+_, _-_, _≤_, _<_}
+use Prim.Native.Nat.{ℕ, suc, _+_, _-_, _≤_, _<_}
 use mathlib.Core.Path.{_≡_, refl, sym, ap, ap₂, _∙_}
 use mathlib.Core.Bool.{Bool, true, false, cond}
 use mathlib.Core.List.{List, [], _∷_}
@@ -15,11 +15,10 @@ use Rattle.model.specs.Word.{part, put}
 use Rattle.model.specs.Class.{is-class, blocks, block-words, class-of}
 use Rattle.model.specs.Layout.{arena-length, record-head, place-at, place-word, record-at, record-words, block-at, header-word}
 use Rattle.model.specs.View.{segments, class, members, ranked}
-use Rattle.model.specs.Standing.{in-pool}
 use Rattle.model.specs.Sound.{sound}
 use Rattle.model.specs.Calls.{first-untaken, has-untaken, first-rank, class-has-untaken, first-pool, has-pool, given-segment, given-rank, given-index, joined, allocated}
 use Rattle.model.specs.declared.Shape.{Shape}
-use Rattle.laws.proofs.Below.{First, first-is}
+use Rattle.laws.proofs.Below.{first-is}
 use Rattle.laws.proofs.Splice.{length-part, length-put, put-mid}
 use Rattle.words.proofs.ClassLaws.{class-rule, class-bounds, bounds-class, class-small, blocks-most, block-least}
 use Rattle.words.proofs.HandleLaws.{block-in-arena}
@@ -47,24 +46,29 @@ module _ (ws : List ℕ) (N i : ℕ) (spot : Spot) (shape : Shape) (h : Take ws 
   pub block-ends : block-at N (spot .segment) i (spot .index .0) + block-words i ≤ length ws
   block-ends = omega (arith, h .long, block-in-arena N (spot .segment) i (spot .index .0) (h .there) (bounds-class i (h .low) (h .high)) (h .inside))
 
-  pub block-some : 2 ≤ block-words i
+  block-some : 2 ≤ block-words i
   block-some = block-least i (bounds-class i (h .low) (h .high))
 
   -- the place behind it can be packed
   pub index-fits : spot .index .0 + 1 < 4096
   index-fits = omega (arith, h .inside, blocks-most i (bounds-class i (h .low) (h .high)))
 
-  pub given-block-length : length (given-block i shape) ≡ block-words i
+  given-block-length : length (given-block i shape) ≡ block-words i
   given-block-length = ap suc (length-replicate (block-words i - 1) 0) ∙ omega (arith, block-some)
 
-  -- its part of the arena, written as a block's own words
+  -- its part of the arena: so long, and what it is once it is written as a block's own words
+  part-long : (a w : ℕ) → a ≡ block-at N (spot .segment) i (spot .index .0) → w ≡ block-words i → length (part ws a (a + w - a)) ≡ block-words i
+  part-long a w ea ew = length-part ws a (a + w - a) (omega (arith, block-ends)) ∙ omega arith
+
+  pub clear-asked : (a w : ℕ) → a ≡ block-at N (spot .segment) i (spot .index .0) → w ≡ block-words i → Cleared (part ws a (a + w - a)) shape
+  clear-asked a w ea ew = record { some = omega (arith, part-long a w ea ew, block-some); n-fits = h .n-fits; r-fits = h .r-fits }
+
   pub put-block-is : (ys : List ℕ) (a w : ℕ) → a ≡ block-at N (spot .segment) i (spot .index .0) → w ≡ block-words i
       → ys ≡ header-word (shape .n) (shape .r) (shape .tag) ∷ replicate (length (part ws a (a + w - a)) - 1) 0
       → putMid a (a + w - a) ws ys ≡ put ws (block-at N (spot .segment) i (spot .index .0)) (given-block i shape)
   put-block-is ys a w ea ew same =
-      let long : length (part ws a (a + w - a)) ≡ block-words i = length-part ws a (a + w - a) (omega (arith, block-ends)) ∙ omega arith in
       put-lent ws ys (given-block i shape) a (a + w - a) (block-at N (spot .segment) i (spot .index .0)) ea
-      (same ∙ ap (λ (m : ℕ). header-word (shape .n) (shape .r) (shape .tag) ∷ replicate (m - 1) 0) long) (given-block-length ∙ omega arith)
+      (same ∙ ap (λ (m : ℕ). header-word (shape .n) (shape .r) (shape .tag) ∷ replicate (m - 1) 0) (part-long a w ea ew)) (given-block-length ∙ omega arith)
 
 -- the block first, and then the place
 pub taken-is : (ws vs us : List ℕ) (N i : ℕ) (spot : Spot) (shape : Shape)

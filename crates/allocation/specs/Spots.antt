@@ -16,10 +16,7 @@ use Rattle.allocation.specs.declared.find.Spot.{Spot}
 use Rattle.allocation.specs.declared.find.Found.{Found}
 use Rattle.allocation.specs.declared.find.Found.the-variants.{Here, Joins, NoRoom}
 
--- segment s is of class i, and of that rank in it
-abbrev pub is-member : List ℕ → ℕ → ℕ → Bool
-is-member ws i s = eqb (class ws s) i
-
+-- segment s is of class i, and of rank q in it
 abbrev pub has-rank : List ℕ → ℕ → ℕ → ℕ → Bool
 has-rank ws i q s = eqb (class ws s) i && eqb (rank ws s) q
 

@@ -1,14 +1,14 @@
 // The block to give.
 ghost use Rattle.model.specs.View.{place-rank, place-index};
 ghost use Rattle.allocation.specs.Spots.{Search, FreeAt, Free, AtPlace, Joining, Finds};
-use crate::segments::first_pool;
-use crate::segments::members;
+use crate::pool::first_pool;
 use crate::segments::ranked;
 use arena::place_of;
 use arena::record_of;
 use arena::segments;
 use bitmap::search::first_free;
 use model::BlockIndex;
+use records::ranks::members;
 use words::class::blocks;
 use words::fields::place_index;
 use words::fields::place_rank;

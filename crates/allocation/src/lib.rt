@@ -9,4 +9,5 @@
 pub mod allocate;
 pub mod find;
 pub mod give;
+pub mod pool;
 pub mod segments;

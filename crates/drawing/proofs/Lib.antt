@@ -1,8 +1,10 @@
+pub mod Collecting
 pub mod FieldLaws
 pub mod Kept
 pub mod LookLaws
 pub mod Outcomes
 pub mod PutLaws
+pub mod RefusalNumbers
 pub mod Refusals
 pub mod RoomLaws
 pub mod Sizes

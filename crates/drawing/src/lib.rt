@@ -5,10 +5,13 @@
 // and leaves, for all inputs and all refusals, is one promise of crate model (specs/Calls), and two
 // outcomes that meet a promise are equal (proofs/Unique). A granted write keeps the arena sound (proofs/Kept).
 //
-// The calls stand in make, ask, references and plain. What they share stands in look (handles of a judged
-// arena), fields (a block's own words), put (one word changed) and rooms; no other crate can call it.
+// The calls stand in make, allocate, ask, references, plain and collect. What they share stands in look
+// (handles of a judged arena), fields (a block's own words), put (one word changed) and rooms; no other crate
+// can call it.
 
+pub mod allocate;
 pub mod ask;
+pub mod collect;
 mod fields;
 mod look;
 pub mod make;

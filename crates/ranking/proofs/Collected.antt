@@ -1,20 +1,20 @@
 -- The records and places that the code makes are those of a collection: from counts, groups, heads and places that are right, the arena
 -- afterwards is `collected`.
 -- Assumes nothing.
-use Prim.Native.Nat.{ℕ, _+_, _*_, _≤_, _<_}
+use Prim.Native.Nat.{ℕ, _+_, _≤_, _<_}
 use mathlib.Core.Path.{_≡_, refl, sym, ap, ap₂, _∙_}
 use mathlib.Core.Logic.{_⊎_, inl, inr, _≢_}
 use mathlib.Core.Bool.{Bool, true, false, not, cond, _&&_, _||_, or-false}
 use mathlib.Core.List.{List, [], _∷_, _++_, append-nil}
 use native.Mathlib.Omega.{arith}
-use lib.ListN.{length, getD, take, drop, replicate, length-take, drop-of-length-le}
+use lib.ListN.{length, getD, take, drop, replicate, drop-of-length-le}
 use lib.Seq.{ext-getD, length-take-le, take-take, take-suc}
 use lib.Dec.{eqb, ltb}
-use borrow.Author.Tests.{eqb-true, eqb-false, eq-eqb, ne-eqb, not-true}
-use Rattle.model.specs.Below.{count-below, words-below, lists-below}
+use borrow.Author.Tests.{eqb-false, ne-eqb, not-true}
+use Rattle.model.specs.Below.{words-below, lists-below}
 use Rattle.model.specs.Word.{word, put, field}
 use Rattle.model.specs.Class.{is-class, blocks}
-use Rattle.model.specs.Layout.{record-at, record-head, record-words, level-rows, handle, segment-of, index-of}
+use Rattle.model.specs.Layout.{record-at, record-head, level-rows, handle, segment-of, index-of}
 use Rattle.model.specs.View.{segments, record-of, class, rank, bit-in, bit-of}
 use Rattle.model.specs.Standing.{in-pool}
 use Rattle.model.specs.Sound.{levels-right}
@@ -24,19 +24,20 @@ use Rattle.laws.proofs.Below.{count-below-le, count-below-pos, length-words-bel
 use Rattle.laws.proofs.Splice.{put-append}
 use Rattle.words.proofs.ClassLaws.{class-bounds, blocks-most}
 use Rattle.words.proofs.FieldLaws.{record-head-class}
-use Rattle.bitmap.proofs.RecordLaws.{record-length, record-right, rows-ext, set-of-record}
+use Rattle.bitmap.proofs.RecordLaws.{record-right, rows-ext, set-of-record}
 use Rattle.soundness.proofs.Tests.{and-left, and-right, and-intro, either, never}
-use Rattle.soundness.proofs.Facts.{Member, Sound, sound-facts}
+use Rattle.soundness.proofs.Facts.{Sound, sound-facts}
 use Rattle.soundness.proofs.Taken.{TakenHandle, handle-facts}
 use Rattle.ways.proofs.Listed.{in-listed}
 use Rattle.ranking.specs.Anew.{TakenList}
 use Rattle.ranking.specs.Live.{Handles, Live}
-use Rattle.ranking.specs.Groups.{pool, Groups, rank-by, head-by, Heads, place-by, Places}
+use Rattle.ranking.specs.Groups.{pool, Groups}
+use Rattle.ranking.specs.Heads.{head-by, Heads}
+use Rattle.ranking.specs.Places.{Places}
 use Rattle.ranking.specs.Records.{with-records, bare-record, Head}
 use Rattle.ranking.specs.Marks.{marked, Marks}
 use Rattle.ranking.proofs.GroupLaws.{lives-is, stays-is, rank-is, place-is}
-use Rattle.ranking.proofs.Bare.{bare-length}
-use Rattle.ranking.proofs.WithRecords.{with-length, with-segments, with-record, with-again, with-ext}
+use Rattle.ranking.proofs.RecordLaws.{bare-length, with-length, with-segments, with-record, with-again, with-ext}
 use Rattle.ranking.proofs.MarkLaws.{marked-pool, marked-used}
 
 -- ---- segments that stay

@@ -26,7 +26,9 @@ use Rattle.soundness.proofs.Ranks.{count-below-parts}
 use Rattle.soundness.proofs.Taken.{is-taken-handle}
 use Rattle.ways.proofs.Listed.{listed-in}
 use Rattle.ranking.specs.Live.{live-in, Live}
-use Rattle.ranking.specs.Groups.{pool, full, rest, any-rank, group-of, Groups, ranks-in, ranked-in, rank-by, place-for, place-by}
+use Rattle.ranking.specs.Groups.{pool, full, rest, any-rank, group-of, Groups, ranks-in, ranked-in}
+use Rattle.ranking.specs.Heads.{rank-by}
+use Rattle.ranking.specs.Places.{place-for, place-by}
 
 pub one-if-le : (t : Bool) → one-if t ≤ 1
 one-if-le true = omega arith

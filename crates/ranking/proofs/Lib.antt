@@ -1,7 +1,6 @@
 pub mod LiveLaws
 pub mod GroupLaws
 pub mod Rows
-pub mod WithRecords
-pub mod Bare
+pub mod RecordLaws
 pub mod MarkLaws
 pub mod Collected

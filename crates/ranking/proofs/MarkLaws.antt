@@ -3,7 +3,7 @@
 use Prim.Native.Nat.{ℕ, _+_, _<_, _≤_}
 use mathlib.Core.Path.{_≡_, refl, sym, ap, ap₂, _∙_}
 use mathlib.Core.Logic.{_≢_}
-use mathlib.Core.Bool.{Bool, true, false, cond, _||_}
+use mathlib.Core.Bool.{Bool, true, false, _||_}
 use mathlib.Core.List.{List, [], _∷_}
 use native.Mathlib.Omega.{arith}
 use lib.ListN.{length, getD, take}
@@ -21,7 +21,7 @@ use Rattle.bitmap.proofs.RecordLaws.{record-length, record-right, right-is, row
 use Rattle.ranking.specs.Records.{with-records}
 use Rattle.ranking.specs.Marks.{marked-one, marked, Mark, Marks}
 use Rattle.ranking.proofs.LiveLaws.{listed-none, listed-next, handle-here, handle-elsewhere}
-use Rattle.ranking.proofs.WithRecords.{with-length, with-segments, with-record, with-ext, with-own, with-put}
+use Rattle.ranking.proofs.RecordLaws.{with-length, with-segments, with-record, with-ext, with-own, with-put}
 
 -- the levels of a segment with the bits of a list's blocks
 abbrev with-bits : List ℕ → List ℕ → ℕ → ℕ → Bool

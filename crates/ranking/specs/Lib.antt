@@ -1,5 +1,7 @@
+pub mod Anew
 pub mod Live
 pub mod Groups
+pub mod Heads
+pub mod Places
 pub mod Records
 pub mod Marks
-pub mod Anew

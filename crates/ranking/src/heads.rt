@@ -1,10 +1,9 @@
 // The new ranks, and with them the heads of the new records.
 ghost use mathlib.Core.Path.{_≡_};
-ghost use Prim.Native.Nat.{_<_, _≤_};
-ghost use Rattle.model.specs.Word.{word};
-ghost use Rattle.model.specs.View.{segments, class, rank};
+ghost use Prim.Native.Nat.{_≤_};
 ghost use Rattle.arena.specs.Inside.{Segment};
-ghost use Rattle.ranking.specs.Groups.{Whole, rank-by, head-by, HeadOf, HeadsOf, Heads};
+ghost use Rattle.ranking.specs.Heads.{rank-by, head-by, HeadOf, HeadsOf, Heads};
+use crate::groups::ANY_RANK;
 use crate::groups::FULL;
 use crate::groups::POOL;
 use crate::groups::REST;
@@ -25,7 +24,7 @@ fn new_rank(arena: &[u32], groups: &[u32; 64], s: u32) -> u32
     if groups[wide(s)] == FULL {
         return ranked_in(arena, groups, i, FULL, former);
     }
-    ranked_in(arena, groups, i, FULL, 256) + ranked_in(arena, groups, i, REST, former)
+    ranked_in(arena, groups, i, FULL, ANY_RANK) + ranked_in(arena, groups, i, REST, former)
 }
 
 // The head of a segment's new record; in the pool it is 0.

@@ -1,8 +1,9 @@
 // The new allocation places.
 ghost use mathlib.Core.Path.{_≡_};
-ghost use Prim.Native.Nat.{_<_, _≤_};
 ghost use Rattle.model.specs.Word.{put};
-ghost use Rattle.ranking.specs.Groups.{Whole, PlaceFor, place-for, place-by, PlaceOf, Places, WritePlaces};
+ghost use Rattle.ranking.specs.Groups.{Whole};
+ghost use Rattle.ranking.specs.Places.{PlaceFor, place-for, place-by, PlaceOf, Places, WritePlaces};
+use crate::groups::ANY_RANK;
 use crate::groups::FULL;
 use crate::groups::REST;
 use crate::groups::ranked_in;
@@ -29,8 +30,8 @@ fn new_place(arena: &[u32], groups: &[u32; 64], class: u32) -> u32
     requires { ⌜ PlaceOf (now arena) class ⌝ }
     ensures { λ r. ⌜ r ≡ place-by (now (arena .entry)) (now (groups .entry)) class ⌝ }
 {
-    let full = ranked_in(arena, groups, class, FULL, 256);
-    let rest = ranked_in(arena, groups, class, REST, 256);
+    let full = ranked_in(arena, groups, class, FULL, ANY_RANK);
+    let rest = ranked_in(arena, groups, class, REST, ANY_RANK);
     place_for(class, full, full + rest)
 }
 

@@ -1,6 +1,5 @@
 // The new records, before any bit is set in them.
 ghost use mathlib.Core.Path.{_≡_};
-ghost use Prim.Native.Nat.{_<_};
 ghost use lib.ListN.{length, replicate};
 ghost use Rattle.model.specs.Word.{word, put};
 ghost use Rattle.model.specs.Layout.{record-at};

@@ -1,33 +1,32 @@
 -- Laws of gathering: the references of a segment's taken blocks end to end, block by block, by the set bits of a word, and word by word.
 -- Assumes nothing.
-use Prim.Native.Nat.{ℕ, zero, suc, _+_, _-_, _*_, _/_, _%_, _^_, _≤_, _<_}
+use Prim.Native.Nat.{ℕ, zero, suc, _+_, _-_, _*_, _^_, _≤_, _<_}
 use mathlib.Core.Path.{_≡_, refl, sym, ap, ap₂, _∙_}
-use mathlib.Core.Bool.{Bool, true, false, not, cond, _&&_, _||_, and-true, and-false, and-assoc, and-eq-true-iff, false≢true}
+use mathlib.Core.Bool.{Bool, true, false, not, _&&_, and-true, and-false, and-eq-true-iff, false≢true}
 use mathlib.Core.List.{List, [], _∷_, _++_, append-nil, append-assoc}
-use native.Mathlib.Nat.{add-zero, add-suc, zero-add, mul-suc, mul-le-mul-left, mul-le-mul-right}
+use native.Mathlib.Nat.{add-zero, add-suc, mul-suc, mul-le-mul-right}
 use native.Mathlib.Numerals.{add-one}
 use native.Mathlib.Omega.{arith}
 use lib.Dec.{eqb, leb, ltb}
 use lib.Bits.{bitAnd, and-le-r}
 use lib.Count.{trailingZeros, trailing-le, trailing-of-zero}
 use lib.ListN.{length, take, drop, set, length-append, length-set, length-drop, length-take}
-use lib.Seq.{length-take-le, take-suc, take-suc-set, getD-take, getD-drop}
-use borrow.Author.Tests.{ltb-true, ltb-false, eqb-true, eqb-false, eq-eqb, ne-eqb, leb-true}
+use lib.Seq.{length-take-le, take-take, take-append-add, take-suc, take-suc-set, getD-drop}
+use borrow.Author.Tests.{ltb-true, ltb-false, eqb-true, eqb-false, ne-eqb, leb-true}
 use Rattle.model.specs.Below.{all-below, lists-below}
 use Rattle.model.specs.Word.{word, part, bit}
 use Rattle.model.specs.Class.{is-class, blocks, block-words, words-for, class-of}
-use Rattle.model.specs.Layout.{arena-length, block-at}
-use Rattle.model.specs.View.{segments, class, block-offset, block-of, n-in, r-in, reference-in}
-use Rattle.model.specs.Standing.{in-pool, taken-at, is-taken, none-or-taken}
-use Rattle.model.specs.Sound.{block-right, taken-right}
-use Rattle.laws.proofs.Below.{all-below-at, all-below-intro, all-below-ext, all-below-step, all-below-add, all-below-split, all-below-fails, all-below-finds, First, first-is}
+use Rattle.model.specs.Layout.{block-at}
+use Rattle.model.specs.View.{segments, class, block-offset, block-of, n-in, r-in}
+use Rattle.model.specs.Standing.{taken-at}
+use Rattle.laws.proofs.Below.{all-below-intro, all-below-step, all-below-add, all-below-split, first-is}
 use Rattle.laws.proofs.Bits.{bit-zero, bit-and-pred, trailing-first, word-ext}
-use Rattle.laws.proofs.Splice.{length-part, word-part}
-use Rattle.words.proofs.ClassLaws.{class-bounds, bounds-class, class-room, blocks-fill, blocks-most, block-least}
+use Rattle.laws.proofs.Splice.{length-part}
+use Rattle.words.proofs.ClassLaws.{bounds-class, class-room}
 use Rattle.words.proofs.HandleLaws.{block-inside, block-in-arena}
-use Rattle.taken.specs.Row.{Member, TakenRow, row-bit, row-none-or-taken}
-use Rattle.taken.specs.Gather.{header-right, references-in, headed, references-of, segment-right, Copied, Added, GatheredBelow, Of, AtWord}
-use Rattle.taken.proofs.RowLaws.{taken-at-inside, is-taken-at, row-none-or-taken-is}
+use Rattle.taken.specs.Row.{TakenRow}
+use Rattle.taken.specs.Gather.{header-right, references-in, headed, references-of, Copied, Added, GatheredBelow, Of, AtWord}
+use Rattle.taken.proofs.RowLaws.{taken-at-inside, is-taken-at}
 
 -- ---- copying one reference more
 
@@ -54,6 +53,16 @@ copied-step {b} {refs} {refs'} {f} {m} c l u = record {
     longer =
         ap (λ (n : ℕ). take n (drop 1 b)) (add-one f) ∙ take-suc (drop 1 b) f 0 (simp length-drop (omega arith))
         ∙ ap (λ (x : ℕ). part b 1 f ++ (x ∷ [])) (getD-drop 1 b f 0)
+
+-- and fewer of them
+pub copied-less : {b refs refs' : List ℕ} {w m : ℕ} (r : ℕ) → Copied b refs w m refs' → r ≤ w → m ≤ length refs → Copied b refs r m refs'
+copied-less {b} {refs} {refs'} {w} {m} r c l u = record {
+  long = c .long;
+  words =
+      sym (take-take (m + r) (m + w) refs' (omega arith)) ∙ ap (take (m + r)) (c .words)
+      ∙ ap (λ (n : ℕ). take (n + r) (take m refs ++ part b 1 w)) (sym (length-take-le m refs u))
+      ∙ take-append-add (take m refs) (part b 1 w) r ∙ ap (λ (xs : List ℕ). take m refs ++ xs) (take-take r w (drop 1 b) l);
+}
 
 -- ---- headers
 
@@ -319,15 +328,19 @@ module _ {ws : List ℕ} {N s i : ℕ} (o : Of ws N s i) where
   pub of-class : is-class (class ws s) ≡ true
   of-class = ap is-class (sym (o .member .class)) ∙ bounds-class i (o .member .low) (o .member .high)
 
-  pub block-is : (k : ℕ) → part ws (block-at N s i k) (block-words i) ≡ block-of ws s k
+  -- the part of the arena that is handed on as a block is the block
+  pub block-handed : {b : List ℕ} (k : ℕ) → b ≡ part ws (block-at N s i k) (block-words i) → b ≡ block-of ws s k
   unfolding block-of
-  block-is k = ap₂ (λ (n c : ℕ). part ws (block-at n s c k) (block-words c)) (o .all) (o .member .class)
+  block-handed k e = e ∙ ap₂ (λ (n c : ℕ). part ws (block-at n s c k) (block-words c)) (o .all) (o .member .class)
 
   pub block-long : (k : ℕ) → k < blocks (class ws s) → length (block-of ws s k) ≡ block-words (class ws s)
   unfolding block-of
   block-long k l =
       length-part ws (block-offset ws s k) (block-words (class ws s))
       (omega (arith, o .member .long, block-in-arena (segments ws) s (class ws s) k (o .member .there) of-class l))
+
+  pub handed-long : {b : List ℕ} (k : ℕ) → b ≡ part ws (block-at N s i k) (block-words i) → k < blocks (class ws s) → length b ≡ block-words i
+  handed-long k e l = ap length (block-handed k e) ∙ block-long k l ∙ ap block-words (sym (o .member .class))
 
 -- ---- word by word
 

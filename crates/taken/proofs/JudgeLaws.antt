@@ -1,23 +1,23 @@
 -- Laws of the judge: with right headers, all is right with a segment's taken blocks where the gathered references are each 0 or a taken block.
 -- Assumes nothing.
-use Prim.Native.Nat.{ℕ, zero, suc, _+_, _-_, _*_, _≤_, _<_}
+use Prim.Native.Nat.{ℕ, zero, suc, _+_, _≤_, _<_}
 use mathlib.Core.Path.{_≡_, refl, sym, ap, ap₂, _∙_}
-use mathlib.Core.Bool.{Bool, true, false, not, _&&_, _||_, and-assoc, and-eq-true-iff}
-use mathlib.Core.List.{List, [], _++_}
+use mathlib.Core.Bool.{Bool, true, false, not, _&&_, _||_, and-assoc}
+use mathlib.Core.List.{List, _++_}
 use native.Mathlib.Omega.{arith}
 use lib.Dec.{eqb, leb}
 use lib.ListN.{length, take, length-append, List·getD-append}
 use lib.Seq.{length-take-le, getD-take, getD-append-add}
 use Rattle.model.specs.Below.{all-below, lists-below}
 use Rattle.model.specs.Word.{word, part}
-use Rattle.model.specs.Class.{is-class, blocks, block-words, class-of}
+use Rattle.model.specs.Class.{blocks, class-of}
 use Rattle.model.specs.View.{segments, class, block-of, n-in, r-in, reference-in}
 use Rattle.model.specs.Standing.{in-pool, taken-at, none-or-taken}
 use Rattle.model.specs.Sound.{block-right, taken-right}
-use Rattle.laws.proofs.Below.{all-below-at, all-below-intro, all-below-ext, all-below-add, all-below-fails, all-below-finds}
+use Rattle.laws.proofs.Below.{all-below-at, all-below-ext, all-below-add, all-below-fails, all-below-finds}
 use Rattle.laws.proofs.Splice.{length-part, word-part}
 use Rattle.taken.specs.Row.{TakenRow, row-none-or-taken}
-use Rattle.taken.specs.Gather.{header-right, references-in, headed, references-of, segment-right, GatheredBelow, Of}
+use Rattle.taken.specs.Gather.{header-right, headed, references-of, segment-right, GatheredBelow, Of}
 use Rattle.taken.proofs.RowLaws.{row-none-or-taken-is}
 use Rattle.taken.proofs.GatherLaws.{header-room, headed-free, headed-taken, references-free, references-taken, block-long}
 
@@ -100,11 +100,12 @@ module _ {ws : List ℕ} {N s i : ℕ} (o : Of ws N s i) where
       let found = all-below-finds (blocks i) (headed ws s) (sym (g .headers) ∙ e) in
       rw p (all-below-fails (blocks (class ws s)) right-at (found .0) (omega (arith, found .1, ap blocks (o .member .class))) (wrong-at (found .0) (found .2)))
 
-  pub judged-right : {refs : List ℕ} {right : Bool} {m : ℕ} {row : List ℕ} → GatheredBelow ws s (blocks i) refs right m → right ≡ true → in-pool ws s ≡ false → TakenRow ws row
-      → all-below m (λ f. row-none-or-taken row N (word refs f)) ≡ segment-right ws s
+  pub judged-right : {refs : List ℕ} {right : Bool} {m : ℕ} {row : List ℕ} {r : Bool} → GatheredBelow ws s (blocks i) refs right m → right ≡ true
+      → in-pool ws s ≡ false → TakenRow ws row → r ≡ all-below m (λ f. row-none-or-taken row N (word refs f)) → r ≡ segment-right ws s
   unfolding segment-right
-  judged-right {refs} {right} {m} {row} g e p t =
-      all-below-ext m (λ f. row-none-or-taken row N (word refs f)) (λ f. none-or-taken ws (word refs f)) (λ f l. row-none-or-taken-is t (sym (o .all)) (word refs f))
+  judged-right {refs} {right} {m} {row} g e p t tested =
+      tested
+      ∙ all-below-ext m (λ f. row-none-or-taken row N (word refs f)) (λ f. none-or-taken ws (word refs f)) (λ f l. row-none-or-taken-is t (sym (o .all)) (word refs f))
       ∙ all-words-take (none-or-taken ws) m refs (omega (arith, g .room e, g .long))
       ∙ ap (all-words (none-or-taken ws)) (g .words e)
       ∙ all-words-lists (none-or-taken ws) (blocks i) (references-of ws s)

@@ -16,7 +16,7 @@ use borrow.Author.Count.{below-more}
 use borrow.Author.Tests.{lt-ltb, le-ltb, eq-eqb, ne-eqb, ltb-true, ltb-false, eqb-true, eqb-false}
 use Rattle.model.specs.Below.{count-below}
 use Rattle.model.specs.Word.{word, bit, ones, word-of-bits}
-use Rattle.model.specs.Class.{is-class, blocks}
+use Rattle.model.specs.Class.{blocks}
 use Rattle.model.specs.Layout.{arena-length, record-at}
 use Rattle.model.specs.View.{segments, place-rank, place-index, record-of, class, rank, bit-of}
 use Rattle.model.specs.Standing.{in-pool, is-block, before-place, taken-at, is-taken, none-or-taken, taken-count}

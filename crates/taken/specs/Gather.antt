@@ -7,7 +7,7 @@ use mathlib.Core.List.{List, [], _++_}
 use lib.ListN.{length, take}
 use lib.Dec.{eqb, leb}
 use Rattle.model.specs.Below.{all-below, lists-below}
-use Rattle.model.specs.Word.{word, part, bit}
+use Rattle.model.specs.Word.{part, bit}
 use Rattle.model.specs.Class.{blocks, block-words, class-of}
 use Rattle.model.specs.View.{segments, class, block-of, n-in, r-in}
 use Rattle.model.specs.Standing.{in-pool, taken-at}
@@ -36,6 +36,7 @@ segment-right ws s =
 
 -- ---- what one block adds to the references that are gathered already, the first m words of the row
 
+-- asked to copy the r words behind a block's header, and what that leaves
 pub record Copying (b refs : List ℕ) (r m : ℕ) : Type 0 where
   pub inside : r < length b
   pub long : length refs ≡ 4096
@@ -45,9 +46,17 @@ pub record Copied (b refs : List ℕ) (r m : ℕ) (refs' : List ℕ) : Type 0 wh
   pub long : length refs' ≡ 4096
   pub words : take (m + r) refs' ≡ take m refs ++ part b 1 r
 
+-- asked for a block's r references: there is room for all its words but the header
+pub record Putting (b refs : List ℕ) (r m : ℕ) : Type 0 where
+  pub some : 2 ≤ length b
+  pub inside : r < length b
+  pub long : length refs ≡ 4096
+  pub room : m + (length b - 1) ≤ 4096
+
+-- asked for a block whose header is not tested yet, and what that leaves
 pub record Adding (i : ℕ) (b refs : List ℕ) (m : ℕ) : Type 0 where
   pub block : length b ≡ block-words i
-  pub some : 0 < block-words i
+  pub some : 2 ≤ block-words i
   pub long : length refs ≡ 4096
   pub room : m + (block-words i - 1) ≤ 4096
 
@@ -83,12 +92,13 @@ pub record AtWord (ws : List ℕ) (N s i j w : ℕ) (refs : List ℕ) (m : ℕ) 
   pub bits : (b : ℕ) → b < 32 → bit w b ≡ taken-at ws s (32 * j + b)
   pub gathered : GatheredBelow ws s (32 * j) refs true m
 
+-- asked for a whole segment
 pub record AtSegment (ws : List ℕ) (N s i : ℕ) (row refs : List ℕ) : Type 0 where
   pub of : Of ws N s i
   pub taken : TakenRow ws row
   pub long : length refs ≡ 4096
 
--- asked for any segment
+-- asked to judge any segment, and what that leaves
 pub record Judging (ws : List ℕ) (N s : ℕ) (row refs : List ℕ) : Type 0 where
   pub classed : Classed ws
   pub all : N ≡ segments ws

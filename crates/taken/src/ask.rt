@@ -1,6 +1,5 @@
 // Asking a row: is a handle that of a taken block, and how many blocks are taken.
 ghost use mathlib.Core.Path.{_≡_};
-ghost use mathlib.Core.Bool.{_||_};
 ghost use Prim.Native.Nat.{_*_, _≤_};
 ghost use Rattle.model.specs.Below.{count-below};
 ghost use Rattle.taken.specs.Row.{row-bit, row-taken, row-none-or-taken};
@@ -29,11 +28,11 @@ pub fn none_or_taken(row: &[u32; 4096], n: u32, h: u32) -> bool
     ensures { λ r. ⌜ r ≡ row-none-or-taken (now (row .entry)) n h ⌝ }
 {
     let none = (h == 0) as u32;
-    let x = h + none - 1;
-    if 2048 * n <= x {
+    let at = h + none - 1;
+    if 2048 * n <= at {
         return false;
     }
-    ((row[wide(x / 32)] >> (x % 32)) | none) % 2 == 1
+    ((row[wide(at / 32)] >> (at % 32)) | none) % 2 == 1
 }
 
 // The number of taken blocks: the ones of the words of n segments.

@@ -4,11 +4,10 @@
 // its references are put end to end into a row, of which a segment needs less than 4,096 words: a block has room
 // for its header besides.
 ghost use mathlib.Core.Path.{_≡_};
-ghost use mathlib.Core.Bool.{true};
 ghost use Prim.Native.Nat.{_+_, _*_, _<_};
 ghost use lib.ListN.{length};
 ghost use Rattle.model.specs.Class.{blocks};
-ghost use Rattle.taken.specs.Gather.{header-right, Copying, Copied, Adding, Added, GatheredBelow, AtBlock, AtWord, AtSegment};
+ghost use Rattle.taken.specs.Gather.{header-right, Copying, Copied, Putting, Adding, Added, GatheredBelow, AtBlock, AtWord, AtSegment};
 use arena::block_of;
 use arena::wide;
 use model::BlockIndex;
@@ -42,15 +41,32 @@ fn header_right(block: &[u32], class: u32) -> bool
     header_r(w) <= n
 }
 
-// Puts a block's r references behind the first m words.
-fn copy(block: &[u32], r: usize, refs: &mut [u32; 4096], m: usize)
-    requires { ⌜ Copying (now block) (now refs) r m ⌝ }
-    ensures { λ _. ⌜ Copied (now (block .entry)) (now (refs .entry)) r m (now (refs .exit)) ⌝ }
+// Puts that many words of a block, from the one behind its header on, behind the first m words.
+fn copy(block: &[u32], words: usize, refs: &mut [u32; 4096], m: usize)
+    requires { ⌜ Copying (now block) (now refs) words m ⌝ }
+    ensures { λ _. ⌜ Copied (now (block .entry)) (now (refs .entry)) words m (now (refs .exit)) ⌝ }
 {
     let mut f = 0;
-    while f < r {
+    while f < words {
         refs[m + f] = block[1 + f];
         f += 1;
+    }
+}
+
+// Puts a block's r references there. Words behind them do no harm, since the next block's go over them, and a
+// branch that depends on r costs more than they do: so a small block is copied whole, and a larger one at least 7 words.
+fn put_references(block: &[u32], r: usize, refs: &mut [u32; 4096], m: usize)
+    requires { ⌜ Putting (now block) (now refs) r m ⌝ }
+    ensures { λ _. ⌜ Copied (now (block .entry)) (now (refs .entry)) r m (now (refs .exit)) ⌝ }
+{
+    if block.len() == 2 {
+        copy(block, 1, refs, m);
+    } else if block.len() == 4 {
+        copy(block, 3, refs, m);
+    } else if 8 <= block.len() && r < 8 {
+        copy(block, 7, refs, m);
+    } else {
+        copy(block, r, refs, m);
     }
 }
 
@@ -65,7 +81,7 @@ fn add_block(block: &[u32], class: u32, refs: &mut [u32; 4096], m: usize) -> Gat
         };
     }
     let r = wide(header_r(block[0]));
-    copy(block, r, refs, m);
+    put_references(block, r, refs, m);
     Gathered {
         right: true,
         count: m + r,

@@ -4,7 +4,7 @@
 // place's index; or if its bit is set." So each segment has a limit, and a word of its row is the ones below the
 // limit, or its level-0 word, and of that the bits below its number of blocks: padding is no block.
 ghost use mathlib.Core.Path.{_≡_};
-ghost use Prim.Native.Nat.{_+_, _*_, _<_, _≤_};
+ghost use Prim.Native.Nat.{_+_, _*_, _<_};
 ghost use lib.ListN.{length};
 ghost use lib.Dec.{ltb};
 ghost use Rattle.model.specs.Word.{word-of-bits};

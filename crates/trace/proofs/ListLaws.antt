@@ -1,7 +1,7 @@
 -- Handles put on a list, by what `mark` tells: one, and a row of them.
 -- Assumes nothing.
-use Prim.Native.Nat.{ℕ, zero, suc, _+_, _-_, _*_, _≤_, _<_}
-use mathlib.Core.Path.{_≡_, refl, sym, ap, ap₂, _∙_, subst}
+use Prim.Native.Nat.{ℕ, _+_, _-_, _*_, _≤_, _<_}
+use mathlib.Core.Path.{_≡_, refl, sym, ap, _∙_, subst}
 use mathlib.Core.Logic.{_≢_}
 use mathlib.Core.Bool.{Bool, true, false, not, cond, _||_}
 use mathlib.Core.List.{List, [], _∷_, _++_, append-assoc, append-nil}
@@ -14,7 +14,7 @@ use lib.Seq.{take-suc-set, take-set-le, drop-set-lt, length-take-le, drop-drop}
 use Rattle.model.specs.Below.{one-if}
 use Rattle.model.specs.Ways.{listed}
 use Rattle.ways.proofs.Put.{put-on, put-all, put-all-next, put-all-length}
-use Rattle.trace.specs.Marks.{Marked, Mark, Row, none-or-marked}
+use Rattle.trace.specs.Marks.{Marked, Mark, none-or-marked}
 use Rattle.trace.specs.List.{On, PutRoot, Kept}
 use Rattle.trace.proofs.MarkLaws.{mark-new, mark-put-on, marked-known}
 

@@ -5,12 +5,12 @@ use mathlib.Core.Path.{_≡_, refl, sym, ap, ap₂, _∙_}
 use mathlib.Core.Logic.{_⊎_, inl, inr, _≢_}
 use mathlib.Core.Bool.{Bool, true, false, not, _&&_, _||_, cond, and-true, and-false, or-false, or-assoc}
 use mathlib.Core.List.{List, [], _∷_, _++_}
-use native.Mathlib.Nat.{zero-mul, mod-eq-of-lt}
+use native.Mathlib.Nat.{zero-mul}
 use native.Mathlib.Omega.{arith}
 use mir.Val.{boolByte}
 use lib.Bits.{bitOr}
 use lib.Dec.{eqb}
-use lib.ListN.{length, getD, set, replicate, length-replicate, getD-replicate, List·getD-append}
+use lib.ListN.{length, set, replicate, length-replicate, getD-replicate, List·getD-append}
 use lib.Seq.{getD-set-same, getD-set-other}
 use borrow.Author.Tests.{eqb-true, eqb-false, eq-eqb, ne-eqb}
 use Rattle.model.specs.Below.{one-if}
@@ -19,7 +19,7 @@ use Rattle.laws.proofs.Bits.{digit, bit-or, bit-pow, bit-zero, shl-one}
 use Rattle.model.specs.Ways.{listed}
 use Rattle.soundness.proofs.Tests.{same-test}
 use Rattle.ways.proofs.Put.{put-on}
-use Rattle.trace.specs.Marks.{marked, Marked, Row, Mark, none-or-marked}
+use Rattle.trace.specs.Marks.{marked, Marked, Mark, none-or-marked}
 
 -- ---- without a branch
 

@@ -3,32 +3,31 @@
 -- Assumes nothing.
 use Prim.Native.Nat.{ℕ, zero, suc, _+_, _-_, _*_, _≤_, _<_}
 use mathlib.Core.Path.{_≡_, refl, sym, ap, ap₂, _∙_, subst}
-use mathlib.Core.Logic.{_⊎_, inl, inr, _≢_}
-use mathlib.Core.Bool.{Bool, true, false, not, _||_, false≢true}
-use mathlib.Core.List.{List, [], _∷_, _++_, append-assoc}
-use native.Mathlib.Nat.{sub-zero}
+use mathlib.Core.Logic.{_⊎_, inl, inr}
+use mathlib.Core.Bool.{true, false, false≢true}
+use mathlib.Core.List.{List, [], _++_, append-assoc}
 use native.Mathlib.Omega.{arith}
 use native.Mathlib.Decide.{decLt}
 use lib.Dec.{eqb}
-use lib.ListN.{length, getD, take, drop, length-append, length-take, length-drop, List·getD-append}
-use lib.Seq.{getD-take, getD-drop, getD-append-add, length-take-le, take-at, take-length}
+use lib.ListN.{length, getD, take, drop, length-append, length-drop, List·getD-append}
+use lib.Seq.{getD-take, getD-drop, getD-append-add, length-take-le, take-at}
 use borrow.Author.Tests.{eqb-true}
-use Rattle.model.specs.Below.{words-below, lists-below}
+use Rattle.model.specs.Below.{lists-below}
 use Rattle.model.specs.Word.{put}
 use Rattle.model.specs.View.{segments, block, r-in, reference-in}
 use Rattle.model.specs.Standing.{is-taken, none-or-taken, taken-count}
 use Rattle.model.specs.Sound.{sound}
-use Rattle.model.specs.Ways.{In, drawing, Listing}
+use Rattle.model.specs.Ways.{In, drawing}
 use Rattle.laws.proofs.Below.{all-below-at, count-below-le, lists-below-ext, length-words-below, word-words-below}
-use Rattle.laws.proofs.Splice.{from-put, drop-put, length-put}
+use Rattle.laws.proofs.Splice.{drop-put, length-put}
 use Rattle.soundness.proofs.Tests.{or-cases}
 use Rattle.soundness.proofs.Facts.{sound-facts}
 use Rattle.ways.proofs.Put.{put-all, put-all-from, put-all-blocks, put-all-distinct, put-all-length}
-use Rattle.ways.proofs.Trace.{Inv, Bounded, fields, start, traced}
+use Rattle.ways.proofs.Trace.{Inv, fields, start, traced}
 use Rattle.ways.proofs.Run.{gathered, advance-run}
 use Rattle.ways.proofs.Arena.{references, drawing-bounded, fields-of-taken, taken-position, taken-count-most}
-use Rattle.trace.specs.Marks.{Marked, Row}
-use Rattle.trace.specs.Gather.{references-of, references-of-all, Queue, Gathered}
+use Rattle.trace.specs.Marks.{Marked}
+use Rattle.trace.specs.Gather.{references-of, Queued, Gathered}
 use Rattle.trace.specs.List.{On, Roots, Handles, Kept}
 use Rattle.trace.specs.Trace.{Traceable, Traced, Listed, Turn, Turned}
 use Rattle.trace.proofs.GatherLaws.{taken-inside}
@@ -114,7 +113,7 @@ queue-length list head tail l = length-take-le (tail - head) (drop head list) (r
 
 module _ {ws : List ℕ} {N : ℕ} {list : List ℕ} {head tail : ℕ} {marks row : List ℕ} (t : Turn ws N list head tail marks row) where
   -- its blocks are taken
-  pub turn-queue : Queue ws N (take (tail - head) (drop head list))
+  pub turn-queue : Queued ws N (take (tail - head) (drop head list))
   turn-queue = record {
     right = t .right;
     all = t .all;

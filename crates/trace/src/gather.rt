@@ -5,7 +5,7 @@ ghost use lib.ListN.{length};
 ghost use Rattle.model.specs.Word.{put};
 ghost use Rattle.model.specs.Below.{words-below};
 ghost use Rattle.model.specs.View.{r-in, reference-in};
-ghost use Rattle.trace.specs.Gather.{references-of, Taken, Behind, Queue, Gathered};
+ghost use Rattle.trace.specs.Gather.{references-of, Masked, Taken, Room, Behind, FirstEight, Queued, Gathered};
 use arena::block_of;
 use arena::class;
 use arena::wide;
@@ -26,12 +26,40 @@ pub fn copy(from: &[u32], row: &mut [u32], at: usize)
     }
 }
 
-// Copies a block's references behind the first `end` words of a row, and says where they end.
+// The reference in a field, and some word of the block where it has no such field: a block's words are a
+// power of two, so that their mask leads back into the block, with no branch.
+fn reference(block: &[u32], f: usize) -> u32
+    requires { ⌜ Masked (now block) × (f < 8) ⌝ }
+    ensures { λ r. ⌜ (1 + f < length (now (block .entry)) → r ≡ reference-in (now (block .entry)) f) ⌝ }
+{
+    let mask = block.len() - 1;
+    block[(1 + f) & mask]
+}
+
+// Copies a block's first eight references behind the first `end` words of a row, and where it has fewer,
+// something else behind them.
+fn eight(block: &[u32], row: &mut [u32], end: usize)
+    requires { ⌜ Masked (now block) × (end + 8 ≤ length (now row)) ⌝ }
+    ensures { λ _. ⌜ FirstEight (now (block .entry)) (now (row .entry)) end (now (row .exit)) ⌝ }
+{
+    let mut f: usize = 0;
+    while f < 8 {
+        row[end + f] = reference(block, f);
+        f += 1;
+    }
+}
+
+// Copies a block's references behind the first `end` words of a row, and says where they end. Most blocks
+// have few: for them eight at once spare a loop whose length cannot be foretold.
 fn references(block: &[u32], row: &mut [u32], end: usize) -> usize
-    requires { ⌜ (r-in (now block) < length (now block)) × (end + r-in (now block) ≤ length (now row)) ⌝ }
+    requires { ⌜ Room (now block) (now row) end ⌝ }
     ensures { λ r. ⌜ Behind (words-below (r-in (now (block .entry))) (reference-in (now (block .entry)))) (now (row .entry)) end r (now (row .exit)) ⌝ }
 {
     let r = wide(header_r(block[0]));
+    if r <= 8 {
+        eight(block, row, end);
+        return end + r;
+    }
     let last = 1 + r;
     copy(&block[1..last], row, end);
     end + r
@@ -48,7 +76,7 @@ fn gather_block(arena: &[u32], n: u32, h: u32, row: &mut [u32], end: usize) -> u
     references(block_of(arena, n, s, i, index(Handle(h))), row, end)
 }
 
-// How many blocks of a queue have been taken off, and where their references end in the row.
+// How many blocks were taken off a queue, and where their references end in the row.
 pub struct Run {
     pub blocks: usize,
     pub end: usize,
@@ -57,7 +85,7 @@ pub struct Run {
 // Gathers the references of the blocks of a queue, until there are none left or the row could not take
 // another 1,023.
 pub fn gather(arena: &[u32], n: u32, queue: &[u32], row: &mut [u32]) -> Run
-    requires { ⌜ Queue (now arena) n (now queue) × (1023 ≤ length (now row)) ⌝ }
+    requires { ⌜ Queued (now arena) n (now queue) × (1023 ≤ length (now row)) ⌝ }
     ensures { λ r. ⌜ Gathered (now (arena .entry)) (now (queue .entry)) (r .blocks) (r .end) (now (row .exit)) ⌝ }
 {
     let mut blocks = 0;

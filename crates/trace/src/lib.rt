@@ -1,8 +1,14 @@
-pub mod gather;
-pub mod list;
-pub mod marks;
-
-ghost use mathlib.Core.Path.{_≡_};
+// The trace of a collection: it lists the blocks that are reachable from the roots, in the order of demand 3.
+//
+// Breadth first, with the lent list as the queue. The roots are put on the list one by one. Then, while the
+// queue is not empty, blocks are taken off its head: their references are gathered end to end in a row
+// (gather), those that are 0 or marked are dropped from the row (list), and the rest is put on the list's
+// end. A block is marked (marks) when it is put on, not when it is taken off, so none is listed twice. No
+// branch depends on what the references are. The arena is only read.
+//
+// Proved: the list is that of demand 3, the later words of the lent list are unchanged, and exactly the
+// listed blocks are marked. Functions speak of lists of handles (crate ways, Put); only the last loop names
+// the invariant of the order (crate ways, Trace).
 ghost use Rattle.trace.specs.Trace.{Traceable, Traced, Turn, Turned};
 use crate::gather::copy;
 use crate::gather::gather;
@@ -10,13 +16,17 @@ use crate::list::keep_new;
 use crate::list::put_roots;
 use arena::segments;
 
+pub mod gather;
+pub mod list;
+pub mod marks;
+
 // Where the queue begins and ends in the list.
 pub struct Queue {
     pub head: usize,
     pub tail: usize,
 }
 
-// One turn: takes blocks off the queue and puts their references on.
+// One turn: takes blocks off the queue, at least one, and puts on what they refer to.
 fn turn(
     arena: &[u32],
     n: u32,
@@ -30,7 +40,8 @@ fn turn(
     ensures { λ r. ⌜ Turned (now (arena .entry)) n (now (list .entry)) head tail (r .head) (r .tail) (now (list .exit)) (now (marks .exit)) ⌝ }
 {
     let run = gather(arena, n, &list[head..tail], row);
-    let kept = keep_new(row, run.end, marks);
+    let end = run.end;
+    let kept = keep_new(row, end, marks);
     copy(&row[0..kept], list, tail);
     Queue {
         head: head + run.blocks,
@@ -38,6 +49,8 @@ fn turn(
     }
 }
 
+// Lists the reachable blocks in the first words of the list, and says how many there are. The marks are
+// 64 words for each segment, whatever they hold; afterwards they are those of the listed blocks.
 pub fn trace(arena: &[u32], roots: &[u32], list: &mut [u32], marks: &mut [u32]) -> u32
     requires { ⌜ Traceable (now arena) (now roots) (now list) (now marks) ⌝ }
     ensures { λ r. ⌜ Traced (now (arena .entry)) (now (roots .entry)) (now (list .entry)) r (now (list .exit)) (now (marks .exit)) ⌝ }

@@ -1,13 +1,21 @@
 // The list of a trace: handles are put on its end, each block once, and a block is marked when it is put on.
 ghost use mathlib.Core.Path.{_≡_};
 ghost use mathlib.Core.List.{[]};
-ghost use Prim.Native.Nat.{_≤_};
-ghost use lib.ListN.{length, take};
+ghost use Prim.Native.Nat.{_<_};
+ghost use lib.ListN.{length, getD};
 ghost use Rattle.ways.proofs.Put.{put-all};
 ghost use Rattle.trace.specs.List.{On, Root, PutRoot, Roots, Handles, Kept};
 use crate::marks::clear;
 use crate::marks::mark;
 use arena::wide;
+
+// The root at a position.
+fn root_at(roots: &[u32], p: usize) -> u32
+    requires { ⌜ p < length (now roots) ⌝ }
+    ensures { λ r. ⌜ r ≡ getD (now (roots .entry)) p 0 ⌝ }
+{
+    roots[p]
+}
 
 // Puts a root on the list, of which the first c words are in use, unless it is 0 or there already. Gives the
 // new c.
@@ -31,7 +39,7 @@ pub fn put_roots(n: u32, roots: &[u32], list: &mut [u32], marks: &mut [u32]) -> 
     let mut c = 0;
     let mut p = 0;
     while p < roots.len() {
-        c = put_root(roots[p], list, c, marks);
+        c = put_root(root_at(roots, p), list, c, marks);
         p += 1;
     }
     c

@@ -1,13 +1,12 @@
 -- `ranking::rank_anew` meets its contract: counts, groups, heads and places are those of the collection, and so is the arena that they make.
 -- Assumes nothing.
-use mathlib.Core.Path.{_≡_, sym, ap, subst, _∙_}
+use mathlib.Core.Path.{sym, ap, subst, _∙_}
 use mathlib.Core.List.{List}
 use Prim.Native.Nat.{ℕ}
 use native.Mathlib.Omega.{arith}
-use lib.ListN.{length}
 use Rattle.model.specs.Word.{put}
 use Rattle.model.specs.View.{segments}
-use Rattle.soundness.proofs.Facts.{Sized, sound-facts}
+use Rattle.soundness.proofs.Facts.{sound-facts}
 use Rattle.ranking.specs.Records.{with-records}
 use Rattle.ranking.specs.Marks.{marked, Marks}
 use Rattle.ranking.proofs.LiveLaws.{live-in-le}
@@ -15,15 +14,6 @@ use Rattle.ranking.proofs.Collected.{taken-handles, heads-right, bared-
 use borrow.Author.Needs.{needs}
 use Rattle.ranking.proofs.rank_anew.Statement.{statement}
 use Rattle.ranking.proofs.rank_anew.Tie as tie
-use Rattle.ranking.proofs.rank_anew.Reads as reads
-use Rattle.ranking.proofs.rank_anew.Lts as lts
-use Rattle.ranking.proofs.groups.groups.Reads as groups-reads
-use Rattle.ranking.proofs.heads.new_heads.Reads as new-heads-reads
-use Rattle.ranking.proofs.live.count.Reads as count-reads
-use Rattle.ranking.proofs.marks.mark_all.Reads as mark-all-reads
-use Rattle.ranking.proofs.places.new_places.Reads as new-places-reads
-use Rattle.ranking.proofs.places.write_places.Reads as write-places-reads
-use Rattle.ranking.proofs.records.write_records.Reads as write-records-reads
 
 count-requires : tie.Need-count-requires
 count-requires c κs =

@@ -1,17 +1,14 @@
-use Rattle.soundness.proofs.Facts.{sound-facts}
-use Prim.Native.Nat.{ℕ, _+_, _-_, _≤_}
+-- `trace::trace` meets its contract. The loop's invariant: the list so far is that of the order of demand 3 up to the head, and its later words are
+-- as they were. The measure is what the head has left of the list.
+-- Assumes nothing.
+use Prim.Native.Nat.{_-_, _≤_}
 use mathlib.Core.Path.{_≡_, refl, sym}
 use native.Mathlib.Omega.{arith}
-use borrow.Author.Needs.{needs}
-use lib.ListN.{length, take}
-use Rattle.trace.proofs.TraceLaws.{SoFar, trace-roots, trace-start, so-far-tail, so-far-head, so-far-turn, so-far-longer, so-far-on, so-far-done}
+use lib.ListN.{length}
+use Rattle.soundness.proofs.Facts.{sound-facts}
+use Rattle.trace.proofs.TraceLaws.{SoFar, trace-roots, trace-start, so-far-tail, so-far-turn, so-far-longer, so-far-on, so-far-done}
 use Rattle.trace.proofs.trace.Statement.{statement}
 use Rattle.trace.proofs.trace.Tie as tie
-use Rattle.trace.proofs.trace.Reads as reads
-use Rattle.trace.proofs.trace.Lts as lts
-use Rattle.arena.proofs.segments.Reads as segments-reads
-use Rattle.trace.proofs.list.put_roots.Reads as put-roots-reads
-use Rattle.trace.proofs.turn.Reads as turn-reads
 
 abbrev Inv-loop : tie.InvT-loop
 Inv-loop arena roots list₀ marks₀ n row₀ head₀ tail₀ list marks row head tail =
@@ -20,25 +17,20 @@ Inv-loop arena roots list₀ marks₀ n row₀ head₀ tail₀ list marks row he
 abbrev μ-loop : tie.MeasureT-loop
 μ-loop arena roots list₀ marks₀ n row₀ head₀ tail₀ list marks row head tail = length list₀ - head
 
--- src/lib.rt:37:9
 segments-requires : tie.Need-segments-requires Inv-loop μ-loop
 segments-requires c κs =
     let s = c .before .before .before .before in omega (arith, sound-facts (s .args .arena .now) (s .pre .right) .size .long)
 
--- src/lib.rt:40:9
 put-roots-requires : tie.Need-put-roots-requires Inv-loop μ-loop
 put-roots-requires c κs = trace-roots (c .before .before .before .before .before .before .before .pre) (c .before .before .segments .ensures)
 
--- src/lib.rt:41:5
 loop-holds : tie.Need-loop-holds Inv-loop μ-loop
 loop-holds c =
     (refl, refl, refl, omega arith, trace-start (c .before .before .before .before .before .before .before .before .before .before .before .before .pre) (c .before .before .before .before .before .before .before .segments .ensures) (c .before .before .before .before .put-roots .ensures))
 
--- src/lib.rt:42:61
 slice-aggregate-turn : tie.Need-slice-aggregate-turn Inv-loop μ-loop
 slice-aggregate-turn c = sym (c .before .before .before .before .loop .inv .2)
 
--- src/lib.rt:42:13
 turn-requires : tie.Need-turn-requires Inv-loop μ-loop
 turn-requires c κs =
     let s = c .before .before .before .before .before .before .before .before .before .before .before .before .before .before .before .before .before in
@@ -47,14 +39,12 @@ turn-requires c κs =
     so-far-turn (s .pre .right) (l .inv .4) (l .row) (c .before .before .before .loop-test .taken) (omega (arith, s .pre .room, l .inv .0, p .kept))
     (omega (arith, s .pre .row, l .inv .1, p .kept, c .before .before .before .before .before .before .before .before .before .before .before .before .segments .ensures)) (omega (arith, l .inv .2))
 
--- src/lib.rt:41:5
 loop-less : tie.Need-loop-less Inv-loop μ-loop
 loop-less c =
     let l = c .before .before .before .before .before .before .before .before .before .before .loop in
     let t = c .before .before .before .before .before .turn .ensures in
     omega (arith, t .more, t .within, l .inv .0, l .inv .4 .on .within)
 
--- src/lib.rt:41:5
 loop-again : tie.Need-loop-again Inv-loop μ-loop
 loop-again c =
     let l = c .before .before .before .before .before .before .before .before .before .before .loop in
@@ -67,19 +57,15 @@ loop-again c =
       so-far-on right (l .inv .4) (t .ensures),
     )
 
--- src/lib.rt:46:5
 cast-result : tie.Need-cast-result Inv-loop μ-loop
 cast-result c = omega (arith, so-far-tail (c .before .before .before .before .before .before .before .before .before .before .before .before .before .before .pre .right) (c .before .loop .inv .4))
 
--- src/lib.rt:33:1
 same-length : tie.Need-same-length Inv-loop μ-loop
 same-length c = omega (arith, c .before .loop .inv .0, c .before .before .before .before .before .before .put-roots .kept)
 
--- src/lib.rt:33:1
 same-length-2 : tie.Need-same-length-2 Inv-loop μ-loop
 same-length-2 c = omega (arith, c .before .loop .inv .1, c .before .before .before .before .before .before .put-roots .kept)
 
--- src/lib.rt:33:1
 returns : tie.Need-returns Inv-loop μ-loop
 returns c =
     let l = c .before .loop in

@@ -1,52 +1,46 @@
-use Rattle.allocation.proofs.AllocateLaws.{asks, gives-here, fits-here, outcome-here, gives-joining, fits-joining, outcome-joining, outcome-none}
+-- `allocation::allocate::allocate_sound` meets the promise of allocate: by what the search found. Assumes nothing.
+use Rattle.allocation.proofs.AllocateLaws.{search-asked, Searched, give-asked, handle-asked, given-here, joining-asked, joining-handle-asked, given-joining, none-given}
 use borrow.Author.Needs.{needs}
 use Rattle.allocation.proofs.allocate.allocate_sound.Statement.{statement}
 use Rattle.allocation.proofs.allocate.allocate_sound.Tie as tie
-use Rattle.allocation.proofs.allocate.allocate_sound.Reads as reads
-use Rattle.allocation.proofs.allocate.allocate_sound.Lts as lts
-use Rattle.allocation.proofs.find.find.Reads as find-reads
-use Rattle.allocation.proofs.give.give.Reads as give-reads
-use Rattle.allocation.proofs.give.give_joining.Reads as give-joining-reads
-use Rattle.words.proofs.class.class_of.Reads as class-of-reads
-use Rattle.words.proofs.handles.handle.Reads as handle-reads
+
+-- what is known once the search has ended
+searched : (c : tie.After-find)
+    → Searched (c .before .before .before .before .args .arena .now) (c .before .before .before .before .args .n) (c .before .before .before .before .args .r)
+    (c .before .before .class-of .result) (c .find .result)
+searched c = record { allowed = c .before .before .before .before .pre; class = c .before .before .class-of .ensures; finds = c .find .ensures }
 
 class-of-requires : tie.Need-class-of-requires
 class-of-requires c κs = search needs
 
 find-requires : tie.Need-find-requires
-find-requires c κs =
-    let a = c .before .before .before .args in
-    asks (a .arena .now) (a .n) (a .r) (c .before .before .before .pre) (c .before .class-of .result) (c .before .class-of .ensures)
+find-requires c κs = search-asked (c .before .before .before .pre) (c .before .class-of .ensures)
 
 enum-known-spot : tie.Need-enum-known-spot
 enum-known-spot c = search needs
 
 give-requires : tie.Need-give-requires
 give-requires c κs =
-    let a = c .before .before .before .before .before .before .before .before .args in
-    gives-here (a .arena .now) (a .n) (a .r) (c .before .before .before .before .before .before .before .before .pre) (c .before .before .before .before .before .before .class-of .result) (c .before .before .before .before .before .before .class-of .ensures)
-    (c .before .before .before .before .find .result) (c .before .before .before .before .find .ensures) (c .before .before .spot .given .0 .0) (a .tag) (c .before .before .spot .given .1)
+    let arm = c .before .before in
+    give-asked (searched (arm .before .before)) (arm .spot .given .1)
 
 handle-requires : tie.Need-handle-requires
 handle-requires c κs =
-    let a = c .before .before .before .before .before .before .before .before .before .before .before .args in
-    fits-here (a .arena .now) (a .n) (a .r) (c .before .before .before .before .before .before .before .before .before .before .before .pre) (c .before .before .before .before .before .before .before .before .before .class-of .result) (c .before .before .before .before .before .before .before .before .before .class-of .ensures)
-    (c .before .before .before .before .before .before .before .find .result) (c .before .before .before .before .before .before .before .find .ensures) (c .before .before .before .before .before .spot .given .0 .0) (a .tag) (c .before .before .before .before .before .spot .given .1)
+    let arm = c .before .before .before .before .before in
+    handle-asked (searched (arm .before .before)) (arm .spot .given .1)
 
 enum-known-spot-2 : tie.Need-enum-known-spot-2
 enum-known-spot-2 c = search needs
 
 give-joining-requires : tie.Need-give-joining-requires
 give-joining-requires c κs =
-    let a = c .before .before .before .before .before .before .before .before .args in
-    gives-joining (a .arena .now) (a .n) (a .r) (c .before .before .before .before .before .before .before .before .pre) (c .before .before .before .before .before .before .class-of .result) (c .before .before .before .before .before .before .class-of .ensures)
-    (c .before .before .before .before .find .result) (c .before .before .before .before .find .ensures) (c .before .before .spot2 .given .0 .0) (a .tag) (c .before .before .spot2 .given .1)
+    let arm = c .before .before in
+    joining-asked (searched (arm .before .before)) (arm .spot2 .given .1)
 
 handle-requires-2 : tie.Need-handle-requires-2
 handle-requires-2 c κs =
-    let a = c .before .before .before .before .before .before .before .before .before .before .before .args in
-    fits-joining (a .arena .now) (a .n) (a .r) (c .before .before .before .before .before .before .before .before .before .before .before .pre) (c .before .before .before .before .before .before .before .before .before .class-of .result) (c .before .before .before .before .before .before .before .before .before .class-of .ensures)
-    (c .before .before .before .before .before .before .before .find .result) (c .before .before .before .before .before .before .before .find .ensures) (c .before .before .before .before .before .spot2 .given .0 .0) (a .tag) (c .before .before .before .before .before .spot2 .given .1)
+    let arm = c .before .before .before .before .before in
+    joining-handle-asked (searched (arm .before .before)) (arm .spot2 .given .1)
 
 enum-told : tie.Need-enum-told
 enum-told c = search needs
@@ -56,29 +50,24 @@ same-length c = search needs
 
 returns : tie.Need-returns
 returns c =
-    let a = c .before .before .before .before .before .before .before .before .before .before .before .before .args in
-    outcome-here (a .arena .now) (a .n) (a .r) (c .before .before .before .before .before .before .before .before .before .before .before .before .pre) (c .before .before .before .before .before .before .before .before .before .before .class-of .result) (c .before .before .before .before .before .before .before .before .before .before .class-of .ensures)
-    (c .before .before .before .before .before .before .before .before .find .result) (c .before .before .before .before .before .before .before .before .find .ensures) (c .before .before .before .before .before .before .spot .given .0 .0) (a .tag) (c .before .before .before .before .before .before .spot .given .1)
-    (c .handle .result) (c .before .before .before .give .last .0) (c .handle .ensures) (c .before .before .before .give .ensures)
+    let given = c .before .before .before in
+    let arm = given .before .before .before in
+    given-here (searched (arm .before .before)) (arm .spot .given .1) _ (c .handle .result) (c .handle .ensures) (given .give .ensures)
 
 same-length-2 : tie.Need-same-length-2
 same-length-2 c = search needs
 
 returns-2 : tie.Need-returns-2
 returns-2 c =
-    let a = c .before .before .before .before .before .before .before .before .before .before .before .before .args in
-    outcome-joining (a .arena .now) (a .n) (a .r) (c .before .before .before .before .before .before .before .before .before .before .before .before .pre) (c .before .before .before .before .before .before .before .before .before .before .class-of .result) (c .before .before .before .before .before .before .before .before .before .before .class-of .ensures)
-    (c .before .before .before .before .before .before .before .before .find .result) (c .before .before .before .before .before .before .before .before .find .ensures) (c .before .before .before .before .before .before .spot2 .given .0 .0) (a .tag) (c .before .before .before .before .before .before .spot2 .given .1)
-    (c .handle2 .result) (c .before .before .before .give-joining .last .0) (c .handle2 .ensures) (c .before .before .before .give-joining .ensures)
+    let given = c .before .before .before in
+    let arm = given .before .before .before in
+    given-joining (searched (arm .before .before)) (arm .spot2 .given .1) _ (c .handle2 .result) (c .handle2 .ensures) (given .give-joining .ensures)
 
 same-length-3 : tie.Need-same-length-3
 same-length-3 c = search needs
 
 returns-3 : tie.Need-returns-3
-returns-3 c =
-    let a = c .before .before .before .before .before .before .args in
-    outcome-none (a .arena .now) (a .n) (a .r) (c .before .before .before .before .before .before .pre) (c .before .before .before .before .class-of .result) (c .before .before .before .before .class-of .ensures)
-    (c .before .before .find .result) (c .before .before .find .ensures) (c .enum-told .given .1) (a .tag)
+returns-3 c = none-given (searched (c .before .before)) _ (c .enum-told .given .1)
 
 pub allocate-sound-spec : {M : Type 1} → statement M
 allocate-sound-spec =

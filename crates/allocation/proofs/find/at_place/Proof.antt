@@ -1,3 +1,4 @@
+-- `allocation::find::at_place` meets its contract: the place of a class with segments lies in one of them. Assumes nothing.
 use mathlib.Core.Path.{ap, _∙_}
 use native.Mathlib.Omega.{arith}
 use Rattle.model.specs.Word.{field}
@@ -6,12 +7,6 @@ use Rattle.allocation.proofs.FindLaws.{whole, place-ranked, place-insid
 use borrow.Author.Needs.{needs}
 use Rattle.allocation.proofs.find.at_place.Statement.{statement}
 use Rattle.allocation.proofs.find.at_place.Tie as tie
-use Rattle.allocation.proofs.find.at_place.Reads as reads
-use Rattle.allocation.proofs.find.at_place.Lts as lts
-use Rattle.allocation.proofs.find.free_at.Reads as free-at-reads
-use Rattle.arena.proofs.place_of.Reads as place-of-reads
-use Rattle.words.proofs.fields.place_index.Reads as place-index-reads
-use Rattle.words.proofs.fields.place_rank.Reads as place-rank-reads
 
 place-of-requires : tie.Need-place-of-requires
 place-of-requires c κs =

@@ -1,12 +1,9 @@
+-- `allocation::give::clear_block` meets its contract: zeros with a header before them. Assumes nothing.
 use Rattle.allocation.proofs.GiveLaws.{cleared}
 use borrow.Author.Needs.{needs}
 use lib.ListN.{length}
 use Rattle.allocation.proofs.give.clear_block.Statement.{statement}
 use Rattle.allocation.proofs.give.clear_block.Tie as tie
-use Rattle.allocation.proofs.give.clear_block.Reads as reads
-use Rattle.allocation.proofs.give.clear_block.Lts as lts
-use Rattle.words.proofs.fields.header.Reads as header-reads
-use Rattle.words.proofs.slices.clear.Reads as clear-reads
 
 clear-requires : tie.Need-clear-requires
 clear-requires c κs = search needs

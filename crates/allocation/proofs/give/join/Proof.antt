@@ -1,3 +1,4 @@
+-- `allocation::give::join` meets its contract: what the record's part becomes is the fresh record. Assumes nothing.
 use Prim.Native.Nat.{_+_, _*_, _-_}
 use mathlib.Core.Path.{_≡_, _∙_}
 use mathlib.Core.Bool.{false}
@@ -8,10 +9,6 @@ use Rattle.allocation.proofs.GiveLaws.{put-lent}
 use borrow.Author.Needs.{needs}
 use Rattle.allocation.proofs.give.join.Statement.{statement}
 use Rattle.allocation.proofs.give.join.Tie as tie
-use Rattle.allocation.proofs.give.join.Reads as reads
-use Rattle.allocation.proofs.give.join.Lts as lts
-use Rattle.bitmap.proofs.fresh.fresh.Reads as fresh-reads
-use Rattle.words.proofs.slices.wide.Reads as wide-reads
 
 wide-requires : tie.Need-wide-requires
 wide-requires c κs = search needs
@@ -45,11 +42,13 @@ same-length c = search needs
 
 returns : tie.Need-returns
 returns c =
+    let written = c .before .before .fresh in
+    let w = c .before .before .before .before .wide in
     let a = c .before .before .before .before .before .before .args in
-    let w = c .before .before .before .before .wide .result in
-    let at : 11 + 68 * w ≡ 11 + 68 * a .segment = omega (arith, c .before .before .before .before .wide .ensures) in
-    let size : 68 ≡ 11 + 68 * w + 68 - (11 + 68 * w) = omega arith in
-    put-lent (a .arena .now) (c .before .before .fresh .last .0) _ _ _ _ at (c .before .before .fresh .ensures) (record-length (record-head (a .class) (a .rank) 0) (a .class) (λ k. false) ∙ size)
+    let at : 11 + 68 * w .result ≡ 11 + 68 * a .segment = omega (arith, w .ensures) in
+    let size : 68 ≡ 11 + 68 * w .result + 68 - (11 + 68 * w .result) = omega arith in
+    put-lent (a .arena .now) (written .last .0) _ _ _ _ at (written .ensures)
+    (record-length (record-head (a .class) (a .rank) 0) (a .class) (λ k. false) ∙ size)
 
 pub join-spec : {M : Type 1} → statement M
 join-spec =

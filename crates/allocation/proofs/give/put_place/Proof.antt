@@ -1,3 +1,4 @@
+-- `allocation::give::put_place` meets its contract: one store is a put of one word. Assumes nothing.
 use mathlib.Core.Path.{ap₂, sym, _∙_}
 use native.Mathlib.Omega.{arith}
 use lib.ListN.{set}
@@ -6,10 +7,6 @@ use borrow.Author.Needs.{needs}
 use Prim.Native.Nat.{_-_}
 use Rattle.allocation.proofs.give.put_place.Statement.{statement}
 use Rattle.allocation.proofs.give.put_place.Tie as tie
-use Rattle.allocation.proofs.give.put_place.Reads as reads
-use Rattle.allocation.proofs.give.put_place.Lts as lts
-use Rattle.words.proofs.fields.place.Reads as place-reads
-use Rattle.words.proofs.slices.wide.Reads as wide-reads
 
 place-requires : tie.Need-place-requires
 place-requires c κs = search needs

@@ -1,5 +1,6 @@
+-- `allocation::segments::has_rank` meets its contract. Assumes nothing.
 use Prim.Native.Nat.{ℕ}
-use mathlib.Core.Path.{_≡_, sym, ap, ap₂, _∙_}
+use mathlib.Core.Path.{sym, ap, ap₂, _∙_}
 use mathlib.Core.Bool.{Bool, _&&_}
 use lib.Dec.{eqb}
 use borrow.Author.Tests.{eq-eqb, ne-eqb}
@@ -7,10 +8,6 @@ use Rattle.model.specs.View.{rank}
 use borrow.Author.Needs.{needs}
 use Rattle.allocation.proofs.segments.has_rank.Statement.{statement}
 use Rattle.allocation.proofs.segments.has_rank.Tie as tie
-use Rattle.allocation.proofs.segments.has_rank.Reads as reads
-use Rattle.allocation.proofs.segments.has_rank.Lts as lts
-use Rattle.arena.proofs.class.Reads as class-reads
-use Rattle.arena.proofs.rank.Reads as rank-reads
 
 class-requires : tie.Need-class-requires
 class-requires c κs = search needs

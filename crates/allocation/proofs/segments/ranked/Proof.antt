@@ -1,18 +1,13 @@
+-- `allocation::segments::ranked` meets its contract: no segment passed has the rank. Assumes nothing.
 use borrow.Author.Needs.{needs}
 use Prim.Native.Nat.{_-_}
-use mathlib.Core.Path.{_≡_, refl, sym, ap, _∙_}
+use mathlib.Core.Path.{_∙_}
 use native.Mathlib.Omega.{arith}
-use Rattle.model.specs.View.{segments, members, ranked}
-use Rattle.model.specs.Standing.{in-pool}
-use Rattle.model.specs.Calls.{first-pool}
-use Rattle.allocation.specs.Spots.{is-member, has-rank}
-use Rattle.allocation.proofs.LoopLaws.{Failed, none-yet, one-more, one-passes, none-passes, Counted, count-none, count-more, count-all}
+use Rattle.model.specs.View.{segments, ranked}
+use Rattle.allocation.specs.Spots.{has-rank}
+use Rattle.allocation.proofs.LoopLaws.{Failed, none-yet, one-more, one-passes, none-passes}
 use Rattle.allocation.proofs.segments.ranked.Statement.{statement}
 use Rattle.allocation.proofs.segments.ranked.Tie as tie
-use Rattle.allocation.proofs.segments.ranked.Reads as reads
-use Rattle.allocation.proofs.segments.ranked.Lts as lts
-use Rattle.allocation.proofs.segments.has_rank.Reads as has-rank-reads
-use Rattle.arena.proofs.segments.Reads as segments-reads
 
 abbrev Inv-loop : tie.InvT-loop
 Inv-loop arena class rank n s₀ s = Failed (segments arena) (has-rank arena class rank) s

@@ -7,9 +7,6 @@ use Rattle.ranking.specs.Groups.{group-of}
 use borrow.Author.Needs.{needs}
 use Rattle.ranking.proofs.groups.group.Statement.{statement}
 use Rattle.ranking.proofs.groups.group.Tie as tie
-use Rattle.ranking.proofs.groups.group.Reads as reads
-use Rattle.ranking.proofs.groups.group.Lts as lts
-use Rattle.words.proofs.class.blocks.Reads as blocks-reads
 
 returns : tie.Need-returns
 unfolding group-of

@@ -5,11 +5,6 @@ use Rattle.ranking.specs.Groups.{group-of}
 use borrow.Author.Needs.{needs}
 use Rattle.ranking.proofs.groups.group_of.Statement.{statement}
 use Rattle.ranking.proofs.groups.group_of.Tie as tie
-use Rattle.ranking.proofs.groups.group_of.Reads as reads
-use Rattle.ranking.proofs.groups.group_of.Lts as lts
-use Rattle.arena.proofs.class.Reads as class-reads
-use Rattle.arena.proofs.wide.Reads as wide-reads
-use Rattle.ranking.proofs.groups.group.Reads as group-reads
 
 class-requires : tie.Need-class-requires
 class-requires c κs = search needs

@@ -1,7 +1,7 @@
 -- `ranking::groups::groups` meets its contract. The loop's invariant: the groups of the segments passed stand in the row. Assumes nothing.
 use borrow.Author.Needs.{needs}
 use Prim.Native.Nat.{ℕ, _-_, _≤_, _<_}
-use mathlib.Core.Path.{_≡_, refl, sym, ap, _∙_}
+use mathlib.Core.Path.{_≡_, refl}
 use native.Mathlib.Omega.{arith}
 use lib.ListN.{length, length-set}
 use Rattle.model.specs.Word.{word}
@@ -10,11 +10,6 @@ use Rattle.ranking.specs.Groups.{group-of}
 use Rattle.ranking.proofs.Rows.{row-next}
 use Rattle.ranking.proofs.groups.groups.Statement.{statement}
 use Rattle.ranking.proofs.groups.groups.Tie as tie
-use Rattle.ranking.proofs.groups.groups.Reads as reads
-use Rattle.ranking.proofs.groups.groups.Lts as lts
-use Rattle.arena.proofs.segments.Reads as segments-reads
-use Rattle.arena.proofs.wide.Reads as wide-reads
-use Rattle.ranking.proofs.groups.group_of.Reads as group-of-reads
 
 abbrev Inv-loop : tie.InvT-loop
 Inv-loop arena lives n groups₀ s₀ groups s = (s ≤ n) × (length groups ≡ 64) × ((t : ℕ) → t < s → word groups t ≡ group-of (class arena t) (word lives t))

@@ -3,17 +3,13 @@ use Prim.Native.Nat.{ℕ, _+_, _-_, _≤_}
 use mathlib.Core.Path.{_≡_, refl, sym, ap, ap₂, _∙_}
 use mathlib.Core.Bool.{Bool}
 use native.Mathlib.Omega.{arith}
-use Rattle.model.specs.Below.{one-if, count-below}
+use Rattle.model.specs.Below.{count-below}
 use Rattle.laws.proofs.Below.{count-below-step, count-below-le}
 use Rattle.ranking.specs.Groups.{ranks-in, ranked-in}
 use Rattle.ranking.proofs.GroupLaws.{one-if-le}
 use borrow.Author.Needs.{needs}
 use Rattle.ranking.proofs.groups.ranked_in.Statement.{statement}
 use Rattle.ranking.proofs.groups.ranked_in.Tie as tie
-use Rattle.ranking.proofs.groups.ranked_in.Reads as reads
-use Rattle.ranking.proofs.groups.ranked_in.Lts as lts
-use Rattle.arena.proofs.segments.Reads as segments-reads
-use Rattle.ranking.proofs.groups.ranks_in.Reads as ranks-in-reads
 
 abbrev Inv-loop : tie.InvT-loop
 Inv-loop arena groups i group limit n sum₀ t₀ sum t = (t ≤ n) × (sum ≡ count-below t (ranks-in arena groups i group limit))

@@ -9,11 +9,6 @@ use Rattle.model.specs.View.{class, rank}
 use borrow.Author.Needs.{needs}
 use Rattle.ranking.proofs.groups.ranks_in.Statement.{statement}
 use Rattle.ranking.proofs.groups.ranks_in.Tie as tie
-use Rattle.ranking.proofs.groups.ranks_in.Reads as reads
-use Rattle.ranking.proofs.groups.ranks_in.Lts as lts
-use Rattle.arena.proofs.class.Reads as class-reads
-use Rattle.arena.proofs.rank.Reads as rank-reads
-use Rattle.arena.proofs.wide.Reads as wide-reads
 
 class-requires : tie.Need-class-requires
 class-requires c κs = search needs

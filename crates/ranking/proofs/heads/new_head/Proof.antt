@@ -5,16 +5,11 @@ use native.Mathlib.Omega.{arith}
 use lib.Dec.{eqb}
 use borrow.Author.Tests.{eq-eqb, ne-eqb}
 use Rattle.model.specs.Word.{word}
-use Rattle.ranking.specs.Groups.{pool, head-by}
+use Rattle.ranking.specs.Groups.{pool}
+use Rattle.ranking.specs.Heads.{head-by}
 use borrow.Author.Needs.{needs}
 use Rattle.ranking.proofs.heads.new_head.Statement.{statement}
 use Rattle.ranking.proofs.heads.new_head.Tie as tie
-use Rattle.ranking.proofs.heads.new_head.Reads as reads
-use Rattle.ranking.proofs.heads.new_head.Lts as lts
-use Rattle.arena.proofs.class.Reads as class-reads
-use Rattle.arena.proofs.wide.Reads as wide-reads
-use Rattle.ranking.proofs.heads.new_rank.Reads as new-rank-reads
-use Rattle.words.proofs.fields.record_head.Reads as record-head-reads
 
 wide-requires : tie.Need-wide-requires
 wide-requires c κs = search needs

@@ -5,15 +5,10 @@ use mathlib.Core.Path.{_≡_, refl}
 use native.Mathlib.Omega.{arith}
 use lib.ListN.{length, length-set}
 use Rattle.model.specs.Word.{word}
-use Rattle.ranking.specs.Groups.{head-by}
+use Rattle.ranking.specs.Heads.{head-by}
 use Rattle.ranking.proofs.Rows.{row-next}
 use Rattle.ranking.proofs.heads.new_heads.Statement.{statement}
 use Rattle.ranking.proofs.heads.new_heads.Tie as tie
-use Rattle.ranking.proofs.heads.new_heads.Reads as reads
-use Rattle.ranking.proofs.heads.new_heads.Lts as lts
-use Rattle.arena.proofs.segments.Reads as segments-reads
-use Rattle.arena.proofs.wide.Reads as wide-reads
-use Rattle.ranking.proofs.heads.new_head.Reads as new-head-reads
 
 abbrev Inv-loop : tie.InvT-loop
 Inv-loop arena groups lives n heads₀ s₀ heads s = (s ≤ n) × (length heads ≡ 64) × ((t : ℕ) → t < s → word heads t ≡ head-by arena groups lives t)

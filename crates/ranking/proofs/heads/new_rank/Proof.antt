@@ -6,16 +6,11 @@ use native.Mathlib.Omega.{arith}
 use lib.Dec.{eqb}
 use borrow.Author.Tests.{eq-eqb, ne-eqb}
 use Rattle.model.specs.Word.{word}
-use Rattle.ranking.specs.Groups.{full, rest, any-rank, ranked-in, rank-by}
+use Rattle.ranking.specs.Groups.{full, rest, any-rank, ranked-in}
+use Rattle.ranking.specs.Heads.{rank-by}
 use borrow.Author.Needs.{needs}
 use Rattle.ranking.proofs.heads.new_rank.Statement.{statement}
 use Rattle.ranking.proofs.heads.new_rank.Tie as tie
-use Rattle.ranking.proofs.heads.new_rank.Reads as reads
-use Rattle.ranking.proofs.heads.new_rank.Lts as lts
-use Rattle.arena.proofs.class.Reads as class-reads
-use Rattle.arena.proofs.rank.Reads as rank-reads
-use Rattle.arena.proofs.wide.Reads as wide-reads
-use Rattle.ranking.proofs.groups.ranked_in.Reads as ranked-in-reads
 
 class-requires : tie.Need-class-requires
 class-requires c κs = search needs

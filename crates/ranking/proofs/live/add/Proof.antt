@@ -1,16 +1,12 @@
 -- `ranking::live::add` meets its contract. Assumes nothing.
 use borrow.Author.Needs.{needs}
-use mathlib.Core.Path.{_≡_, ap₂, ap, _∙_}
+use mathlib.Core.Path.{ap, _∙_}
 use Prim.Native.Nat.{ℕ, _+_}
 use lib.ListN.{set}
 use native.Mathlib.Omega.{arith}
 use Rattle.model.specs.Word.{word}
 use Rattle.ranking.proofs.live.add.Statement.{statement}
 use Rattle.ranking.proofs.live.add.Tie as tie
-use Rattle.ranking.proofs.live.add.Reads as reads
-use Rattle.ranking.proofs.live.add.Lts as lts
-use Rattle.arena.proofs.wide.Reads as wide-reads
-use Rattle.words.proofs.handles.segment.Reads as segment-reads
 
 segment-requires : tie.Need-segment-requires
 segment-requires c κs = search needs

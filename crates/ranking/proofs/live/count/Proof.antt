@@ -1,6 +1,6 @@
 -- `ranking::live::count` meets its contract. The loop's invariant: each word counts the handles passed. Assumes nothing.
 use borrow.Author.Needs.{needs}
-use Prim.Native.Nat.{ℕ, _+_, _-_, _≤_, _<_}
+use Prim.Native.Nat.{ℕ, _-_, _≤_, _<_}
 use mathlib.Core.Path.{_≡_, refl, sym, ap, _∙_}
 use mathlib.Core.List.{List}
 use lib.ListN.{length, take, length-set, getD-replicate}
@@ -12,9 +12,6 @@ use Rattle.ranking.specs.Live.{live-in}
 use Rattle.ranking.proofs.LiveLaws.{live-in-none, live-in-le, counted-next}
 use Rattle.ranking.proofs.live.count.Statement.{statement}
 use Rattle.ranking.proofs.live.count.Tie as tie
-use Rattle.ranking.proofs.live.count.Reads as reads
-use Rattle.ranking.proofs.live.count.Lts as lts
-use Rattle.ranking.proofs.live.add.Reads as add-reads
 
 abbrev Inv-loop : tie.InvT-loop
 Inv-loop list lives₀ j₀ lives j = (j ≤ length list) × (length lives ≡ 64) × ((s : ℕ) → s < 64 → word lives s ≡ live-in (take j list) s)
@@ -22,19 +19,15 @@ Inv-loop list lives₀ j₀ lives j = (j ≤ length list) × (length lives ≡ 6
 abbrev μ-loop : tie.MeasureT-loop
 μ-loop list lives₀ j₀ lives j = length list - j
 
--- src/live.rt:27:5
 loop-holds : tie.Need-loop-holds Inv-loop μ-loop
 loop-holds c = (search needs, refl, λ s l. getD-replicate 64 s 0 0 l ∙ sym (live-in-none s))
 
--- src/live.rt:28:25
 mul-add : tie.Need-mul-add Inv-loop μ-loop
 mul-add c = search needs
 
--- src/live.rt:28:25
 shared-slice-read-add : tie.Need-shared-slice-read-add Inv-loop μ-loop
 shared-slice-read-add c = search needs
 
--- src/live.rt:28:9
 add-requires : tie.Need-add-requires Inv-loop μ-loop
 add-requires c κs =
     let h = c .before .before .before .before .before .pre in
@@ -44,15 +37,12 @@ add-requires c κs =
     let s : ℕ = segment-of (word list (x .j)) in
     (h .some (x .j) l, h .within (x .j) l, omega (arith, x .inv .2 s (h .within (x .j) l), live-in-le (take (x .j) list) s))
 
--- src/live.rt:29:9
 add-j : tie.Need-add-j Inv-loop μ-loop
 add-j c = search needs
 
--- src/live.rt:27:5
 loop-less : tie.Need-loop-less Inv-loop μ-loop
 loop-less c = search needs
 
--- src/live.rt:27:5
 loop-again : tie.Need-loop-again Inv-loop μ-loop
 loop-again c =
     let h = c .before .before .before .before .before .before .pre in
@@ -65,7 +55,6 @@ loop-again c =
           ∙ counted-next list (h .once) (x .j) l (h .some (x .j) l) (x .lives) (x .inv .1) (h .within (x .j) l) (x .inv .2) s u,
     )
 
--- src/live.rt:21:1
 returns : tie.Need-returns Inv-loop μ-loop
 returns c =
     let x = c .before .loop in

@@ -17,13 +17,6 @@ use Rattle.ranking.specs.Marks.{marked-one}
 use borrow.Author.Needs.{needs}
 use Rattle.ranking.proofs.marks.mark.Statement.{statement}
 use Rattle.ranking.proofs.marks.mark.Tie as tie
-use Rattle.ranking.proofs.marks.mark.Reads as reads
-use Rattle.ranking.proofs.marks.mark.Lts as lts
-use Rattle.arena.proofs.class.Reads as class-reads
-use Rattle.arena.proofs.wide.Reads as wide-reads
-use Rattle.bitmap.proofs.climb.set_bit.Reads as set-bit-reads
-use Rattle.words.proofs.handles.index.Reads as index-reads
-use Rattle.words.proofs.handles.segment.Reads as segment-reads
 
 -- the segment, the class and the words that are lent
 segment-is : (w : tie.After-wide) → w .wide .result ≡ segment-of (w .before .before .before .before .before .before .args .h)

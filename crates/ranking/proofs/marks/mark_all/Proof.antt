@@ -14,9 +14,6 @@ use Rattle.ranking.specs.Marks.{marked-one, marked, Mark}
 use Rattle.ranking.proofs.MarkLaws.{marks-none, marks-ask, marks-next}
 use Rattle.ranking.proofs.marks.mark_all.Statement.{statement}
 use Rattle.ranking.proofs.marks.mark_all.Tie as tie
-use Rattle.ranking.proofs.marks.mark_all.Reads as reads
-use Rattle.ranking.proofs.marks.mark_all.Lts as lts
-use Rattle.ranking.proofs.marks.mark.Reads as mark-reads
 
 abbrev Inv-loop : tie.InvT-loop
 Inv-loop arena₀ list j₀ arena j = (j ≤ length list) × (length arena ≡ length arena₀) × (arena ≡ with-records arena₀ (segments arena₀) (marked arena₀ (take j list)))

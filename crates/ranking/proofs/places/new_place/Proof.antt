@@ -1,14 +1,10 @@
 -- `ranking::places::new_place` meets its contract. Assumes nothing.
 use Prim.Native.Nat.{ℕ, _+_}
 use mathlib.Core.Path.{ap₂, _∙_}
-use Rattle.ranking.specs.Groups.{place-for, place-by}
+use Rattle.ranking.specs.Places.{place-for, place-by}
 use borrow.Author.Needs.{needs}
 use Rattle.ranking.proofs.places.new_place.Statement.{statement}
 use Rattle.ranking.proofs.places.new_place.Tie as tie
-use Rattle.ranking.proofs.places.new_place.Reads as reads
-use Rattle.ranking.proofs.places.new_place.Lts as lts
-use Rattle.ranking.proofs.groups.ranked_in.Reads as ranked-in-reads
-use Rattle.ranking.proofs.places.place_for.Reads as place-for-reads
 
 ranked-in-requires : tie.Need-ranked-in-requires
 ranked-in-requires c κs = search needs

@@ -5,14 +5,10 @@ use mathlib.Core.Path.{_≡_, refl}
 use native.Mathlib.Omega.{arith}
 use lib.ListN.{length, length-set}
 use Rattle.model.specs.Word.{word}
-use Rattle.ranking.specs.Groups.{place-by}
+use Rattle.ranking.specs.Places.{place-by}
 use Rattle.ranking.proofs.Rows.{row-next}
 use Rattle.ranking.proofs.places.new_places.Statement.{statement}
 use Rattle.ranking.proofs.places.new_places.Tie as tie
-use Rattle.ranking.proofs.places.new_places.Reads as reads
-use Rattle.ranking.proofs.places.new_places.Lts as lts
-use Rattle.arena.proofs.wide.Reads as wide-reads
-use Rattle.ranking.proofs.places.new_place.Reads as new-place-reads
 
 abbrev Inv-loop : tie.InvT-loop
 Inv-loop arena groups places₀ c₀ places c = (c ≤ 10) × (length places ≡ 10) × ((t : ℕ) → t < c → word places t ≡ place-by arena groups (t + 3))

@@ -3,14 +3,10 @@ use mathlib.Core.Path.{_∙_}
 use native.Mathlib.Omega.{arith}
 use borrow.Author.Tests.{eq-eqb, ne-eqb, lt-ltb, le-ltb}
 use Rattle.words.proofs.ClassLaws.{blocks-most, bounds-class}
-use Rattle.ranking.specs.Groups.{place-for}
+use Rattle.ranking.specs.Places.{place-for}
 use borrow.Author.Needs.{needs}
 use Rattle.ranking.proofs.places.place_for.Statement.{statement}
 use Rattle.ranking.proofs.places.place_for.Tie as tie
-use Rattle.ranking.proofs.places.place_for.Reads as reads
-use Rattle.ranking.proofs.places.place_for.Lts as lts
-use Rattle.words.proofs.class.blocks.Reads as blocks-reads
-use Rattle.words.proofs.fields.place.Reads as place-reads
 
 place-requires : tie.Need-place-requires
 place-requires c κs = search needs

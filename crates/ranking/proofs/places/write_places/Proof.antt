@@ -1,6 +1,6 @@
 -- `ranking::places::write_places` meets its contract. The loop's invariant: the places passed stand behind the arena's first word. Assumes nothing.
 use borrow.Author.Needs.{needs}
-use Prim.Native.Nat.{ℕ, _+_, _-_, _≤_, _<_}
+use Prim.Native.Nat.{ℕ, _+_, _-_, _≤_}
 use mathlib.Core.Path.{_≡_, refl, ap₂, _∙_}
 use mathlib.Core.List.{List, append-assoc}
 use native.Mathlib.Numerals.{add-one}
@@ -10,8 +10,6 @@ use lib.ListN.{length, take, drop, set, length-set}
 use lib.Seq.{paste, paste-zero, paste-suc, take-all}
 use Rattle.ranking.proofs.places.write_places.Statement.{statement}
 use Rattle.ranking.proofs.places.write_places.Tie as tie
-use Rattle.ranking.proofs.places.write_places.Reads as reads
-use Rattle.ranking.proofs.places.write_places.Lts as lts
 
 abbrev Inv-loop : tie.InvT-loop
 Inv-loop arena₀ places c₀ arena c = (c ≤ 10) × (length arena ≡ length arena₀) × (arena ≡ paste arena₀ 1 places c)

@@ -14,12 +14,6 @@ use Rattle.ranking.specs.Records.{bare-record}
 use borrow.Author.Needs.{needs}
 use Rattle.ranking.proofs.records.bare_record.Statement.{statement}
 use Rattle.ranking.proofs.records.bare_record.Tie as tie
-use Rattle.ranking.proofs.records.bare_record.Reads as reads
-use Rattle.ranking.proofs.records.bare_record.Lts as lts
-use Rattle.bitmap.proofs.fresh.fresh.Reads as fresh-reads
-use Rattle.ranking.proofs.records.clear.Reads as clear-reads
-use Rattle.words.proofs.fields.record_class.Reads as record-class-reads
-use Rattle.words.proofs.fields.record_rank.Reads as record-rank-reads
 
 clear-requires : tie.Need-clear-requires
 clear-requires c κs = search needs

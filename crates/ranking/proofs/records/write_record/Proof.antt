@@ -6,14 +6,10 @@ use borrow.Rule.Slice.PartMut.{putMid}
 use Rattle.model.specs.Layout.{record-at}
 use Rattle.laws.proofs.Splice.{put-mid}
 use Rattle.ranking.specs.Records.{bare-record}
-use Rattle.ranking.proofs.Bare.{bare-length}
+use Rattle.ranking.proofs.RecordLaws.{bare-length}
 use borrow.Author.Needs.{needs}
 use Rattle.ranking.proofs.records.write_record.Statement.{statement}
 use Rattle.ranking.proofs.records.write_record.Tie as tie
-use Rattle.ranking.proofs.records.write_record.Reads as reads
-use Rattle.ranking.proofs.records.write_record.Lts as lts
-use Rattle.arena.proofs.wide.Reads as wide-reads
-use Rattle.ranking.proofs.records.bare_record.Reads as bare-record-reads
 
 wide-requires : tie.Need-wide-requires
 wide-requires c κs = search needs

@@ -9,15 +9,9 @@ use Rattle.model.specs.Word.{word, put}
 use Rattle.model.specs.Layout.{record-at}
 use Rattle.model.specs.View.{segments}
 use Rattle.ranking.specs.Records.{with-records, bare-record, Head}
-use Rattle.ranking.proofs.Bare.{bare-length}
-use Rattle.ranking.proofs.WithRecords.{with-none, with-next, with-segments, with-length}
+use Rattle.ranking.proofs.RecordLaws.{bare-length, with-none, with-next, with-segments}
 use Rattle.ranking.proofs.records.write_records.Statement.{statement}
 use Rattle.ranking.proofs.records.write_records.Tie as tie
-use Rattle.ranking.proofs.records.write_records.Reads as reads
-use Rattle.ranking.proofs.records.write_records.Lts as lts
-use Rattle.arena.proofs.segments.Reads as segments-reads
-use Rattle.arena.proofs.wide.Reads as wide-reads
-use Rattle.ranking.proofs.records.write_record.Reads as write-record-reads
 
 abbrev Inv-loop : tie.InvT-loop
 Inv-loop arena₀ heads n s₀ arena s = (s ≤ n) × (length arena ≡ length arena₀) × (arena ≡ with-records arena₀ s (λ t. bare-record (word heads t)))

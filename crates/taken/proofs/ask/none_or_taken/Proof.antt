@@ -15,11 +15,11 @@ use Rattle.taken.proofs.ask.none_or_taken.Tie as tie
 cast-none : tie.Need-cast-none
 cast-none c = search needs
 
-add-x : tie.Need-add-x
-add-x c = omega (arith, asked-fits (c .args .h) (search needs))
+add-at : tie.Need-add-at
+add-at c = omega (arith, asked-fits (c .args .h) (search needs))
 
-sub-x : tie.Need-sub-x
-sub-x c = asked-some (c .args .h)
+sub-at : tie.Need-sub-at
+sub-at c = asked-some (c .args .h)
 
 mul-if1 : tie.Need-mul-if1
 mul-if1 c = search needs
@@ -52,8 +52,8 @@ none-or-taken-spec =
     tie.close
     (tie.spec
     cast-none
-    add-x
-    sub-x
+    add-at
+    sub-at
     mul-if1
     returns
     wide-requires

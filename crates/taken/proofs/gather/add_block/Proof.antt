@@ -38,13 +38,18 @@ header-r-requires c κs = search needs
 wide-requires : tie.Need-wide-requires
 wide-requires c κs = search needs
 
-copy-requires : tie.Need-copy-requires
-copy-requires c κs =
+put-references-requires : tie.Need-put-references-requires
+put-references-requires c κs =
     let p = c .before .before .before .before .before .before .before .pre in
     let a = c .before .before .before .before .before .before .before .args in
     let room = header-room (a .class) (a .block .now) (right (c .before .before .before .before)) in
     let same = c .before .wide .ensures ∙ c .before .before .header-r .ensures in
-    record { inside = omega (arith, p .block, room, same); long = p .long; room = omega (arith, p .room, room, same) }
+    record {
+      some = omega (arith, p .some, p .block);
+      inside = omega (arith, p .block, room, same);
+      long = p .long;
+      room = omega (arith, p .room, p .block);
+    }
 
 add-t13 : tie.Need-add-t13
 add-t13 c = search needs
@@ -57,10 +62,10 @@ returns-2 c =
     let room = header-room (a .class) (a .block .now) header in
     let same = c .before .before .wide .ensures ∙ c .before .before .before .header-r .ensures in
     record {
-      long = c .copy .ensures .long;
+      long = c .put-references .ensures .long;
       header = sym header;
       room = λ _. omega (arith, p .room, room, same);
-      words = λ _. c .copy .ensures .words ∙ ap (λ (r : ℕ). take (a .m) (a .refs .now) ++ part (a .block .now) 1 r) same;
+      words = λ _. c .put-references .ensures .words ∙ ap (λ (r : ℕ). take (a .m) (a .refs .now) ++ part (a .block .now) 1 r) same;
     }
 
 pub add-block-spec : {M : Type 1} → statement M
@@ -72,6 +77,6 @@ add-block-spec =
     shared-slice-read-header-r
     header-r-requires
     wide-requires
-    copy-requires
+    put-references-requires
     add-t13
     returns-2)

@@ -1,4 +1,4 @@
--- `taken::gather::copy` meets its contract. The loop's invariant: the first f references stand behind the first m words.
+-- `taken::gather::copy` meets its contract. The loop's invariant: the first f of the words stand behind the first m.
 -- Assumes nothing.
 use Prim.Native.Nat.{_-_, _≤_}
 use native.Mathlib.Omega.{arith}
@@ -10,10 +10,10 @@ use Rattle.taken.proofs.gather.copy.Statement.{statement}
 use Rattle.taken.proofs.gather.copy.Tie as tie
 
 abbrev Inv-loop : tie.InvT-loop
-Inv-loop block r refs₀ m f₀ refs f = (f ≤ r) × Copied block refs₀ f m refs
+Inv-loop block words refs₀ m f₀ refs f = (f ≤ words) × Copied block refs₀ f m refs
 
 abbrev μ-loop : tie.MeasureT-loop
-μ-loop block r refs₀ m f₀ refs f = r - f
+μ-loop block words refs₀ m f₀ refs f = words - f
 
 loop-holds : tie.Need-loop-holds Inv-loop μ-loop
 loop-holds c = (search needs, copied-none (c .args .block .now) (c .args .refs .now) (c .args .m) (c .pre .long))
@@ -47,7 +47,7 @@ loop-again c = (search needs, copied-step (c .before .before .loop .inv .1) (ome
 
 returns : tie.Need-returns Inv-loop μ-loop
 returns c =
-    let end : c .before .loop .f ≡ c .before .before .args .r = omega arith in
+    let end : c .before .loop .f ≡ c .before .before .args .words = omega arith in
     rw end at (c .before .loop .inv .1)
 
 pub copy-spec : {M : Type 1} → statement M

@@ -1,12 +1,11 @@
 -- `taken::gather::gather_block` meets its contract: the part that is handed on is the block, and there is room for its references.
 -- Assumes nothing.
 use native.Mathlib.Omega.{arith}
-use mathlib.Core.Path.{ap, sym, _∙_}
-use lib.ListN.{length}
+use mathlib.Core.Path.{ap}
 use Rattle.model.specs.Class.{block-words}
 use Rattle.model.specs.View.{class}
 use Rattle.words.proofs.ClassLaws.{block-least}
-use Rattle.taken.proofs.GatherLaws.{gathered-room, gathered-step, taken-inside, of-class, block-is, block-long}
+use Rattle.taken.proofs.GatherLaws.{gathered-room, gathered-step, taken-inside, of-class, block-handed, handed-long}
 use Rattle.taken.proofs.gather.gather_block.Statement.{statement}
 use Rattle.taken.proofs.gather.gather_block.Tie as tie
 
@@ -31,7 +30,7 @@ add-block-requires c κs =
     let inside = taken-inside (a .arena .now) (a .of .s) (a .k) (p .taken) in
     let same = ap block-words (p .of .member .class) in
     record {
-      block = ap length (c .before .block-of .ensures ∙ block-is (p .of) (a .k)) ∙ block-long (p .of) (a .k) inside ∙ sym same;
+      block = handed-long (p .of) (a .k) (c .before .block-of .ensures) inside;
       some = omega (arith, same, block-least (class (a .arena .now) (a .of .s)) (of-class (p .of)));
       long = p .gathered .long;
       room = omega (arith, same, gathered-room (p .gathered) (of-class (p .of)) inside);
@@ -41,7 +40,7 @@ returns : tie.Need-returns
 returns c =
     let p = c .before .before .before .before .pre in
     let a = c .before .before .before .before .args in
-    gathered-step (p .gathered) (p .taken) (p .of .member .class) (c .before .before .block-of .ensures ∙ block-is (p .of) (a .k)) (c .add-block .ensures)
+    gathered-step (p .gathered) (p .taken) (p .of .member .class) (block-handed (p .of) (a .k) (c .before .before .block-of .ensures)) (c .add-block .ensures)
 
 pub gather-block-spec : {M : Type 1} → statement M
 gather-block-spec = tie.close (tie.spec block-of-requires add-block-requires returns)

@@ -72,7 +72,7 @@ returns-3 c =
     let p = else .before .before .before .pre in
     record {
       long = g .long;
-      judged = c .references-right .ensures ∙ judged-right (of else) g (not-false _ (c .before .before .if2 .left)) (used else) (p .taken);
+      judged = judged-right (of else) g (not-false _ (c .before .before .if2 .left)) (used else) (p .taken) (c .references-right .ensures);
     }
 
 pub segment-right-spec : {M : Type 1} → statement M

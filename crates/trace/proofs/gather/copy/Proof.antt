@@ -1,14 +1,13 @@
-use Prim.Native.Nat.{ℕ, _*_, _-_, _≤_}
+-- `trace::gather::copy` meets its contract. The loop's invariant: the first j words have been copied. Assumes nothing.
+use Prim.Native.Nat.{_-_, _≤_}
 use mathlib.Core.Path.{_≡_}
 use native.Mathlib.Omega.{arith}
 use lib.ListN.{length, length-set}
 use lib.Seq.{paste, paste-zero}
-use Rattle.trace.proofs.GatherLaws.{paste-more, paste-all}
 use borrow.Author.Needs.{needs}
+use Rattle.trace.proofs.GatherLaws.{paste-more, paste-all}
 use Rattle.trace.proofs.gather.copy.Statement.{statement}
 use Rattle.trace.proofs.gather.copy.Tie as tie
-use Rattle.trace.proofs.gather.copy.Reads as reads
-use Rattle.trace.proofs.gather.copy.Lts as lts
 
 abbrev Inv-loop : tie.InvT-loop
 Inv-loop from row₀ at j₀ row j = (j ≤ length from) × (length row ≡ length row₀) × (row ≡ paste row₀ at from j)
@@ -16,39 +15,30 @@ Inv-loop from row₀ at j₀ row j = (j ≤ length from) × (length row ≡ leng
 abbrev μ-loop : tie.MeasureT-loop
 μ-loop from row₀ at j₀ row j = length from - j
 
--- src/gather.rt:23:5
 loop-holds : tie.Need-loop-holds Inv-loop μ-loop
 loop-holds c = (search needs, search needs, paste-zero (c .args .row .now) (c .args .at) (c .args .from .now))
 
--- src/gather.rt:24:23
 mul-row : tie.Need-mul-row Inv-loop μ-loop
 mul-row c = search needs
 
--- src/gather.rt:24:23
 shared-slice-read-row : tie.Need-shared-slice-read-row Inv-loop μ-loop
 shared-slice-read-row c = search needs
 
--- src/gather.rt:24:13
 add-row : tie.Need-add-row Inv-loop μ-loop
 add-row c = search needs
 
--- src/gather.rt:24:9
 mul-row-2 : tie.Need-mul-row-2 Inv-loop μ-loop
 mul-row-2 c = search needs
 
--- src/gather.rt:24:9
 slice-write-row : tie.Need-slice-write-row Inv-loop μ-loop
 slice-write-row c = search needs
 
--- src/gather.rt:25:9
 add-j : tie.Need-add-j Inv-loop μ-loop
 add-j c = search needs
 
--- src/gather.rt:23:5
 loop-less : tie.Need-loop-less Inv-loop μ-loop
 loop-less c = search needs
 
--- src/gather.rt:23:5
 loop-again : tie.Need-loop-again Inv-loop μ-loop
 loop-again c =
     let a = c .before .before .before .args in
@@ -58,11 +48,9 @@ loop-again c =
       rw (c .before .before .loop .inv .2) (paste-more (a .row .now) (a .at) (a .from .now) j (omega arith) (omega arith)),
     )
 
--- src/gather.rt:18:1
 same-length : tie.Need-same-length Inv-loop μ-loop
 same-length c = search needs
 
--- src/gather.rt:18:1
 returns : tie.Need-returns Inv-loop μ-loop
 returns c =
     let a = c .before .before .args in

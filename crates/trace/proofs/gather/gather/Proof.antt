@@ -1,17 +1,15 @@
-use mathlib.Core.Path.{refl}
-use Rattle.model.specs.Below.{lists-below}
-use Rattle.trace.proofs.GatherLaws.{one-more}
-use Prim.Native.Nat.{ℕ, _+_, _-_, _*_, _≤_}
-use mathlib.Core.Path.{_≡_}
+-- `trace::gather::gather` meets its contract. The loop's invariant: the row begins with the references of the blocks taken off, at most 1,023 of each.
+-- Assumes nothing.
+use Prim.Native.Nat.{_-_, _*_, _≤_}
+use mathlib.Core.Path.{refl, _≡_}
 use native.Mathlib.Omega.{arith}
-use borrow.Author.Needs.{needs}
 use lib.ListN.{length, take}
+use borrow.Author.Needs.{needs}
+use Rattle.model.specs.Below.{lists-below}
 use Rattle.trace.specs.Gather.{references-of-all}
+use Rattle.trace.proofs.GatherLaws.{one-more}
 use Rattle.trace.proofs.gather.gather.Statement.{statement}
 use Rattle.trace.proofs.gather.gather.Tie as tie
-use Rattle.trace.proofs.gather.gather.Reads as reads
-use Rattle.trace.proofs.gather.gather.Lts as lts
-use Rattle.trace.proofs.gather.gather_block.Reads as gather-block-reads
 
 abbrev Inv-loop : tie.InvT-loop
 Inv-loop arena n queue row₀ blocks₀ end₀ row blocks end =
@@ -20,49 +18,39 @@ Inv-loop arena n queue row₀ blocks₀ end₀ row blocks end =
 abbrev μ-loop : tie.MeasureT-loop
 μ-loop arena n queue row₀ blocks₀ end₀ row blocks end = length queue - blocks
 
--- src/gather.rt:65:5
 loop-holds : tie.Need-loop-holds Inv-loop μ-loop
 unfolding lists-below
 loop-holds c = (omega arith, refl, omega arith, omega arith, refl)
 
--- src/gather.rt:66:24
 add-if1 : tie.Need-add-if1 Inv-loop μ-loop
 add-if1 c = search needs
 
--- src/gather.rt:67:13
 same-length : tie.Need-same-length Inv-loop μ-loop
 same-length c = search needs
 
--- src/gather.rt:67:13
 returns : tie.Need-returns Inv-loop μ-loop
 returns c =
     let inv = c .before .before .loop .inv in
     record { some = λ h. omega arith; within = inv .0; fits = inv .2; words = inv .4 }
 
--- src/gather.rt:69:38
 mul-gather-block : tie.Need-mul-gather-block Inv-loop μ-loop
 mul-gather-block c = search needs
 
--- src/gather.rt:69:38
 shared-slice-read-gather-block : tie.Need-shared-slice-read-gather-block Inv-loop μ-loop
 shared-slice-read-gather-block c = search needs
 
--- src/gather.rt:69:9
 gather-block-requires : tie.Need-gather-block-requires Inv-loop μ-loop
 gather-block-requires c κs =
     let s = c .before .before .before .before .before .before .before .before in
     let q = c .before .before .before .before .loop .blocks in
     (record { right = s .pre .0 .right; all = s .pre .0 .all; taken = s .pre .0 .taken q (omega arith) }, omega arith)
 
--- src/gather.rt:70:9
 add-blocks : tie.Need-add-blocks Inv-loop μ-loop
 add-blocks c = search needs
 
--- src/gather.rt:65:5
 loop-less : tie.Need-loop-less Inv-loop μ-loop
 loop-less c = search needs
 
--- src/gather.rt:65:5
 loop-again : tie.Need-loop-again Inv-loop μ-loop
 loop-again c =
     let s = c .before .before .before .before .before .before .before .before .before .before .before in
@@ -75,11 +63,9 @@ loop-again c =
       one-more (s .args .arena .now) (s .args .queue .now) (l .blocks) (l .end) (g .result) (l .row) (g .last .1 .1 .1 .0) (l .inv .4) (g .ensures .0),
     )
 
--- src/gather.rt:59:1
 same-length-2 : tie.Need-same-length-2 Inv-loop μ-loop
 same-length-2 c = search needs
 
--- src/gather.rt:59:1
 returns-2 : tie.Need-returns-2 Inv-loop μ-loop
 returns-2 c =
     let inv = c .before .loop .inv in

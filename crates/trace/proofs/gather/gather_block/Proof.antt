@@ -1,66 +1,55 @@
-use mathlib.Core.Path.{_≡_, _∙_}
-use Rattle.laws.proofs.Below.{length-words-below}
-use Rattle.model.specs.View.{block, r-in, reference-in}
-use Rattle.trace.specs.Gather.{Behind, references-of}
+-- `trace::gather::gather_block` meets its contract: a taken block of a sound arena lies in the arena and has room for its references.
+-- Assumes nothing.
+use mathlib.Core.Path.{_≡_}
 use native.Mathlib.Omega.{arith}
-use Rattle.trace.proofs.GatherLaws.{taken-inside, block-is}
 use borrow.Author.Needs.{needs}
+use Rattle.model.specs.View.{block, r-in, reference-in}
+use Rattle.laws.proofs.Below.{length-words-below}
+use Rattle.trace.specs.Gather.{Behind, references-of}
+use Rattle.trace.proofs.GatherLaws.{taken-inside, block-is}
 use Rattle.trace.proofs.gather.gather_block.Statement.{statement}
 use Rattle.trace.proofs.gather.gather_block.Tie as tie
-use Rattle.trace.proofs.gather.gather_block.Reads as reads
-use Rattle.trace.proofs.gather.gather_block.Lts as lts
-use Rattle.arena.proofs.block_of.Reads as block-of-reads
-use Rattle.arena.proofs.class.Reads as class-reads
-use Rattle.trace.proofs.gather.references.Reads as references-reads
-use Rattle.words.proofs.handles.index.Reads as index-reads
-use Rattle.words.proofs.handles.segment.Reads as segment-reads
 
--- src/gather.rt:46:9
 segment-requires : tie.Need-segment-requires
 segment-requires c κs =
     let t = c .before .before .pre .0 in
     taken-inside (c .before .before .args .arena .now) (c .before .before .args .h) (t .right) (t .taken) .some
 
--- src/gather.rt:47:9
 class-requires : tie.Need-class-requires
 class-requires c κs =
     let t = c .before .before .before .pre .0 in
     rw (c .segment .ensures) (taken-inside (c .before .before .before .args .arena .now) (c .before .before .before .args .h) (t .right) (t .taken) .its-segment)
 
--- src/gather.rt:48:41
 index-requires : tie.Need-index-requires
 index-requires c κs =
     let t = c .before .before .before .before .pre .0 in
     taken-inside (c .before .before .before .before .args .arena .now) (c .before .before .before .before .args .h) (t .right) (t .taken) .some
 
--- src/gather.rt:48:16
 block-of-requires : tie.Need-block-of-requires
 block-of-requires c κs =
     let t = c .before .before .before .before .before .pre .0 in
     rw (c .before .class .ensures, c .before .before .segment .ensures, c .index .ensures, t .all)
     (taken-inside (c .before .before .before .before .before .args .arena .now) (c .before .before .before .before .before .args .h) (t .right) (t .taken) .its-block)
 
--- src/gather.rt:48:5
 -- the part that was cut out is the block of the handle
 the-block : (c : tie.After-block-of) →
     let a = c .before .before .before .before .before .before .args in c .block-of .result .now ≡ block (a .arena .now) (a .h)
 the-block c =
-    let a = c .before .before .before .before .before .before .args in
-    c .block-of .ensures
-    ∙ block-is (a .arena .now) _ _ _ _ (a .h) (c .before .before .before .before .before .before .pre .0 .all) (c .before .before .before .segment .ensures)
-    (c .before .before .class .ensures) (c .before .index .ensures)
+    let s = c .before .before .before .before .before .before in
+    block-is (s .args .arena .now) (s .args .n) (c .before .before .before .segment .result) (c .before .before .class .result) (c .before .index .result .0)
+    (s .args .h) (c .block-of .result .now) (s .pre .0 .all) (c .before .before .before .segment .ensures) (c .before .before .class .ensures)
+    (c .before .index .ensures) (c .block-of .ensures)
 
 references-requires : tie.Need-references-requires
 references-requires c κs =
     let s = c .before .before .before .before .before .before .before in
     let inside = taken-inside (s .args .arena .now) (s .args .h) (s .pre .0 .right) (s .pre .0 .taken) in
-    rw (the-block (c .before)) (inside .room, omega (arith, inside .most, s .pre .1))
+    rw (the-block (c .before))
+    (record { masked = inside .masked; within = inside .room; room = omega (arith, inside .most, s .pre .1); eight = omega (arith, s .pre .1) })
 
--- src/gather.rt:42:1
 same-length : tie.Need-same-length
 same-length c = search needs
 
--- src/gather.rt:42:1
 returns : tie.Need-returns
 returns c =
     let s = c .before .before .before .before .before .before .before .before .before .before in

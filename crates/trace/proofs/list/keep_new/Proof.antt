@@ -1,18 +1,17 @@
-use Prim.Native.Nat.{ℕ, _+_, _-_, _≤_}
+-- `trace::list::keep_new` meets its contract. The loop's invariant: of the first k words those that are put on are kept, and the words from k on are as
+-- they were.
+-- Assumes nothing.
+use Prim.Native.Nat.{ℕ, _-_, _≤_}
 use mathlib.Core.Path.{_≡_, refl, _∙_, subst}
 use native.Mathlib.Omega.{arith}
-use borrow.Author.Needs.{needs}
+use native.Mathlib.Nat.{le-refl}
 use lib.ListN.{length, getD, length-set}
 use lib.Seq.{getD-set-other}
-use native.Mathlib.Nat.{le-refl}
+use borrow.Author.Needs.{needs}
 use Rattle.trace.specs.List.{Kept}
 use Rattle.trace.proofs.ListLaws.{kept-none, kept-more}
 use Rattle.trace.proofs.list.keep_new.Statement.{statement}
 use Rattle.trace.proofs.list.keep_new.Tie as tie
-use Rattle.trace.proofs.list.keep_new.Reads as reads
-use Rattle.trace.proofs.list.keep_new.Lts as lts
-use Rattle.arena.proofs.wide.Reads as wide-reads
-use Rattle.trace.proofs.marks.mark.Reads as mark-reads
 
 abbrev Inv-loop : tie.InvT-loop
 Inv-loop row₀ end marks₀ kept₀ k₀ row marks kept k =
@@ -22,27 +21,21 @@ Inv-loop row₀ end marks₀ kept₀ k₀ row marks kept k =
 abbrev μ-loop : tie.MeasureT-loop
 μ-loop row₀ end marks₀ kept₀ k₀ row marks kept k = end - k
 
--- src/list.rt:48:5
 loop-holds : tie.Need-loop-holds Inv-loop μ-loop
 loop-holds c = (omega arith, refl, refl, λ j l. refl, kept-none (c .before .before .args .row .now) (c .before .before .args .marks .now))
 
--- src/list.rt:49:17
 mul-h : tie.Need-mul-h Inv-loop μ-loop
 mul-h c = search needs
 
--- src/list.rt:49:17
 slice-read-h : tie.Need-slice-read-h Inv-loop μ-loop
 slice-read-h c = search needs
 
--- src/list.rt:50:9
 mul-row : tie.Need-mul-row Inv-loop μ-loop
 mul-row c = search needs
 
--- src/list.rt:50:9
 slice-write-row : tie.Need-slice-write-row Inv-loop μ-loop
 slice-write-row c = search needs
 
--- src/list.rt:51:22
 mark-requires : tie.Need-mark-requires Inv-loop μ-loop
 mark-requires c κs =
     let s = c .before .before .before .before .before .before in
@@ -50,23 +43,18 @@ mark-requires c κs =
     let inside = s .pre .inside (l .k) (omega arith) in
     record { some = omega arith; inside = omega (arith, l .inv .3 (l .k) (le-refl (l .k))) }
 
--- src/list.rt:51:17
 wide-requires : tie.Need-wide-requires Inv-loop μ-loop
 wide-requires c κs = search needs
 
--- src/list.rt:51:9
 add-kept : tie.Need-add-kept Inv-loop μ-loop
 add-kept c = search needs
 
--- src/list.rt:52:9
 add-k : tie.Need-add-k Inv-loop μ-loop
 add-k c = search needs
 
--- src/list.rt:48:5
 loop-less : tie.Need-loop-less Inv-loop μ-loop
 loop-less c = search needs
 
--- src/list.rt:48:5
 loop-again : tie.Need-loop-again Inv-loop μ-loop
 loop-again c =
     let a = c .before .before .before .before .before .before .before .before .before .before .args in
@@ -82,15 +70,12 @@ loop-again c =
           (omega (arith, l .inv .4 .within)) (l .inv .3 (l .k) (le-refl (l .k))) (m .ensures)),
     )
 
--- src/list.rt:42:1
 same-length : tie.Need-same-length Inv-loop μ-loop
 same-length c = search needs
 
--- src/list.rt:42:1
 same-length-2 : tie.Need-same-length-2 Inv-loop μ-loop
 same-length-2 c = search needs
 
--- src/list.rt:42:1
 returns : tie.Need-returns Inv-loop μ-loop
 returns c =
     let s = c .before .before .before .before in

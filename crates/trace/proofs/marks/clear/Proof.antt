@@ -1,16 +1,14 @@
-use Prim.Native.Nat.{ℕ, _*_, _-_, _≤_}
+-- `trace::marks::clear` meets its contract. The loop's invariant: the first j words are 0, and the rest is as it was. Assumes nothing.
+use Prim.Native.Nat.{_*_, _-_, _≤_}
 use mathlib.Core.Path.{_≡_}
 use mathlib.Core.List.{_++_}
 use native.Mathlib.Omega.{arith}
 use lib.ListN.{replicate, drop, length, length-set}
 use borrow.Author.Fill.{fill-more}
-use Rattle.trace.proofs.MarkLaws.{cleared}
 use borrow.Author.Needs.{needs}
+use Rattle.trace.proofs.MarkLaws.{cleared}
 use Rattle.trace.proofs.marks.clear.Statement.{statement}
 use Rattle.trace.proofs.marks.clear.Tie as tie
-use Rattle.trace.proofs.marks.clear.Reads as reads
-use Rattle.trace.proofs.marks.clear.Lts as lts
-use Rattle.arena.proofs.wide.Reads as wide-reads
 
 abbrev Inv-loop : tie.InvT-loop
 Inv-loop marks₀ n end j₀ marks j = (j ≤ end) × (length marks ≡ length marks₀) × (marks ≡ replicate j 0 ++ drop j marks₀)
@@ -18,43 +16,33 @@ Inv-loop marks₀ n end j₀ marks j = (j ≤ end) × (length marks ≡ length m
 abbrev μ-loop : tie.MeasureT-loop
 μ-loop marks₀ n end j₀ marks j = end - j
 
--- src/marks.rt:18:20
 wide-requires : tie.Need-wide-requires Inv-loop μ-loop
 wide-requires c κs = search needs
 
--- src/marks.rt:18:15
 mul-end : tie.Need-mul-end Inv-loop μ-loop
 mul-end c = search needs
 
--- src/marks.rt:20:5
 loop-holds : tie.Need-loop-holds Inv-loop μ-loop
 loop-holds c = search needs
 
--- src/marks.rt:21:9
 mul-marks : tie.Need-mul-marks Inv-loop μ-loop
 mul-marks c = search needs
 
--- src/marks.rt:21:9
 slice-write-marks : tie.Need-slice-write-marks Inv-loop μ-loop
 slice-write-marks c = search needs
 
--- src/marks.rt:22:9
 add-j : tie.Need-add-j Inv-loop μ-loop
 add-j c = search needs
 
--- src/marks.rt:20:5
 loop-less : tie.Need-loop-less Inv-loop μ-loop
 loop-less c = search needs
 
--- src/marks.rt:20:5
 loop-again : tie.Need-loop-again Inv-loop μ-loop
 loop-again c = (search needs, simp length-set (c .before .loop .inv .1), rw (c .before .loop .inv .2) (fill-more (c .before .loop .j) 0 (c .before .before .before .before .args .marks .now) (omega arith)))
 
--- src/marks.rt:14:1
 same-length : tie.Need-same-length Inv-loop μ-loop
 same-length c = search needs
 
--- src/marks.rt:14:1
 returns : tie.Need-returns Inv-loop μ-loop
 returns c =
     let n = c .before .before .before .before .args .n in

@@ -1,15 +1,12 @@
-use Rattle.trace.proofs.MarkLaws.{with-mark}
+-- `trace::marks::with_mark` meets its contract, bit by bit. Assumes nothing.
 use borrow.Author.Needs.{needs}
+use Rattle.trace.proofs.MarkLaws.{with-mark}
 use Rattle.trace.proofs.marks.with_mark.Statement.{statement}
 use Rattle.trace.proofs.marks.with_mark.Tie as tie
-use Rattle.trace.proofs.marks.with_mark.Reads as reads
-use Rattle.trace.proofs.marks.with_mark.Lts as lts
 
--- src/marks.rt:47:10
 shl-result : tie.Need-shl-result
 shl-result c = search needs
 
--- src/marks.rt:43:1
 returns : tie.Need-returns
 returns c = λ j. with-mark (c .args .w) (c .args .b) (c .args .new) j (c .pre .1) (c .pre .0)
 

@@ -4,19 +4,22 @@
 use Prim.Native.Nat.{ℕ, zero, suc, _+_, _*_, _≤_, _<_}
 use mathlib.Core.Path.{_≡_, refl, sym, ap, ap₂, _∙_}
 use mathlib.Core.Logic.{_⊎_, inl, inr, _≢_}
-use mathlib.Core.List.{List, [], _∷_, _++_, append-assoc, append-nil}
+use mathlib.Core.Bool.{Bool, true, false, cond}
+use mathlib.Core.List.{List, _∷_, _++_, append-assoc, append-nil}
 use native.Mathlib.Omega.{arith}
 use native.Mathlib.Nat.{eq-or-lt-of-le, le-of-suc-le-suc, le-refl, zero-add, mul-suc, mul-le-mul-left}
 use native.Mathlib.Numerals.{add-one}
-use lib.ListN.{length, take, drop, length-append, length-drop, drop-of-length-le, take-append-drop, List·getD-append}
-use lib.Seq.{length-take-le, take-append-le, take-at, drop-at, drop-drop, take-take, take-all, drop-length, take-add, getD-take, drop-append-add}
+use lib.ListN.{length, replicate, length-replicate, take, drop, length-append, length-drop, drop-of-length-le, take-append-drop, List·getD-append}
+use lib.Seq.{length-take-le, take-at, drop-at, drop-drop, take-add, getD-take, drop-append-add}
+use lib.Dec.{eqb}
 use Rattle.model.specs.Below.{lists-below}
 use Rattle.model.specs.Word.{word, part, put, field}
-use Rattle.model.specs.Layout.{record-at}
+use Rattle.model.specs.Layout.{record-at, level-rows}
 use Rattle.model.specs.View.{segments, record-of}
 use Rattle.laws.proofs.Below.{lists-below-ext, length-lists-below, part-lists-below}
 use Rattle.laws.proofs.Splice.{part-append, put-append, put-append-rest, put-same, length-part}
-use Rattle.ranking.specs.Records.{with-records}
+use Rattle.bitmap.proofs.RecordLaws.{record-length}
+use Rattle.ranking.specs.Records.{with-records, bare-record}
 
 put-whole : (ws xs : List ℕ) → length ws ≤ length xs → put ws 0 xs ≡ xs
 put-whole ws xs h =
@@ -135,3 +138,12 @@ with-own ws n h =
     ap (λ (b : List ℕ). take 11 ws ++ (b ++ drop (record-at n) ws)) (own-records ws n)
     ∙ ap (λ (m : ℕ). take 11 ws ++ (part ws 11 (68 * n) ++ drop (11 + m) ws)) (sym (length-part ws 11 (68 * n) h))
     ∙ put-same ws 11 (68 * n) h
+
+-- a bare record has 68 words
+pub bare-length : (head : ℕ) → length (bare-record head) ≡ 68
+unfolding bare-record
+bare-length head = go (eqb head 0)
+  where
+    go : (t : Bool) → length (cond t (replicate 68 0) (head ∷ level-rows (field 0 4 head) (λ k. false))) ≡ 68
+    go true = length-replicate {A = ℕ} 68 0
+    go false = record-length head (field 0 4 head) (λ k. false)

@@ -1,18 +1,14 @@
+-- `allocation::pool::first_pool` meets its contract: no segment passed is in the pool. Assumes nothing.
 use borrow.Author.Needs.{needs}
 use Prim.Native.Nat.{_-_}
-use mathlib.Core.Path.{_≡_, refl, sym, ap, _∙_}
+use mathlib.Core.Path.{_∙_}
 use native.Mathlib.Omega.{arith}
-use Rattle.model.specs.View.{segments, members, ranked}
+use Rattle.model.specs.View.{segments}
 use Rattle.model.specs.Standing.{in-pool}
 use Rattle.model.specs.Calls.{first-pool}
-use Rattle.allocation.specs.Spots.{is-member, has-rank}
-use Rattle.allocation.proofs.LoopLaws.{Failed, none-yet, one-more, one-passes, none-passes, Counted, count-none, count-more, count-all}
-use Rattle.allocation.proofs.segments.first_pool.Statement.{statement}
-use Rattle.allocation.proofs.segments.first_pool.Tie as tie
-use Rattle.allocation.proofs.segments.first_pool.Reads as reads
-use Rattle.allocation.proofs.segments.first_pool.Lts as lts
-use Rattle.allocation.proofs.segments.in_pool.Reads as in-pool-reads
-use Rattle.arena.proofs.segments.Reads as segments-reads
+use Rattle.allocation.proofs.LoopLaws.{Failed, none-yet, one-more, one-passes, none-passes}
+use Rattle.allocation.proofs.pool.first_pool.Statement.{statement}
+use Rattle.allocation.proofs.pool.first_pool.Tie as tie
 
 abbrev Inv-loop : tie.InvT-loop
 Inv-loop arena n s₀ s = Failed (segments arena) (in-pool arena) s

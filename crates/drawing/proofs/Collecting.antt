@@ -1,0 +1,73 @@
+-- What a collection goes by: the roots as the taken row tells them, and the list of a trace. Assumes nothing.
+use Prim.Native.Nat.{ℕ}
+use native.Mathlib.Omega.{arith}
+use mathlib.Core.Path.{_≡_, refl, sym, _∙_}
+use mathlib.Core.Bool.{false}
+use mathlib.Core.List.{List, [], _∷_}
+use lib.ListN.{length, getD, take}
+use lib.Dec.{eqb}
+use borrow.Author.Tests.{eqb-false}
+use Rattle.model.specs.Below.{all-below}
+use Rattle.model.specs.View.{segments}
+use Rattle.model.specs.Standing.{none-or-taken}
+use Rattle.model.specs.Numbers.{collected-paper}
+use Rattle.model.specs.Calls.{collect-refusal, Granted, Collect}
+use Rattle.model.specs.declared.Collected.{Collected}
+use Rattle.model.specs.declared.Collected.the-variants.{Live}
+use Rattle.laws.proofs.Below.{all-below-at, all-below-ext}
+use Rattle.soundness.proofs.Facts.{sound-facts}
+use Rattle.kept.proofs.Reached.{reachable-taken}
+use Rattle.taken.specs.Row.{TakenRow, row-none-or-taken}
+use Rattle.taken.proofs.RowLaws.{row-none-or-taken-is}
+use Rattle.trace.specs.Trace.{Traceable, Traced}
+use Rattle.ranking.specs.Anew.{TakenList}
+use Rattle.drawing.proofs.RefusalNumbers.{collect-may}
+
+pub taken-list : {ws roots list marks list' marks' : List ℕ} {c : ℕ} → Traceable ws roots list marks → Traced ws roots list c list' marks'
+    → TakenList ws (take c list')
+taken-list {ws} {roots} {list' = list'} {c = c} may done = record {
+  is-sound = may .right;
+  taken = λ k l.
+      reachable-taken ws roots (sound-facts ws (may .right))
+      (all-below-at (length roots) (λ p. none-or-taken ws (getD roots p 0)) (may .right-roots)) (getD (take c list') k 0)
+      (done .listing .nothing-else k l);
+  once = done .listing .once;
+}
+
+-- what the taken row says of the roots is what the arena says
+pub roots-by-row : {ws row : List ℕ} {n : ℕ} (roots : List ℕ) → TakenRow ws row → n ≡ segments ws
+    → all-below (length roots) (λ p. row-none-or-taken row n (getD roots p 0)) ≡ all-below (length roots) (λ p. none-or-taken ws (getD roots p 0))
+roots-by-row {ws} {row} {n} roots t e =
+    all-below-ext (length roots) (λ p. row-none-or-taken row n (getD roots p 0)) (λ p. none-or-taken ws (getD roots p 0))
+    (λ p _. row-none-or-taken-is t (sym e) (getD roots p 0))
+
+-- ---- how collect's promise is shown, of a refusal and of a grant
+
+pub collect-refused : (a : Collected) (ws roots list : List ℕ) (k : ℕ) → collect-refusal ws roots list ≡ k → eqb k 0 ≡ false
+    → collected-paper a ≡ record { number = k; values = 0 ∷ [] } → Collect ws roots list a ws list
+collect-refused a ws roots list k same some said = record {
+  live-count = 0;
+  answered = said ∙ (rw (same, some));
+  refused = λ _. (refl, refl);
+  collected-so = λ none. absurd (eqb-false k 0 some (sym same ∙ none));
+}
+
+pub collect-live : (ws roots list ws' list' : List ℕ) (c : ℕ) → collect-refusal ws roots list ≡ 0 → Granted ws roots list c ws' list'
+    → Collect ws roots list (Live c) ws' list'
+collect-live ws roots list ws' list' c none g = record {
+  live-count = c;
+  answered = rw none;
+  refused = λ some. absurd (some none);
+  collected-so = λ _. g;
+}
+
+-- a collection that is not refused may be traced, with a row of 4,096 words for marks
+pub traceable : (ws roots list marks : List ℕ) → collect-refusal ws roots list ≡ 0 → length marks ≡ 4096 → Traceable ws roots list marks
+traceable ws roots list marks none long =
+    let may = collect-may ws roots list none in
+    record {
+      right = may .0;
+      right-roots = may .1;
+      room = may .2;
+      row = omega (arith, sound-facts ws (may .0) .size .few);
+    }

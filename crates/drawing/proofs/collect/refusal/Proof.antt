@@ -1,0 +1,97 @@
+-- `drawing::collect::refusal` meets its contract. Assumes nothing.
+use borrow.Author.Needs.{needs}
+use borrow.Author.Tests.{not-true, not-false}
+use Prim.Native.Nat.{ℕ, _≤_, _<_}
+use native.Mathlib.Omega.{arith}
+use mathlib.Core.Path.{_≡_, refl, sym, ap, _∙_}
+use mathlib.Core.Bool.{Bool, true, false}
+use mathlib.Core.List.{List}
+use lib.ListN.{length, getD}
+use Rattle.model.specs.Below.{all-below}
+use Rattle.model.specs.View.{segments}
+use Rattle.model.specs.Standing.{none-or-taken, taken-count}
+use Rattle.model.specs.Sound.{sound}
+use Rattle.soundness.proofs.Facts.{Sized, sound-facts}
+use Rattle.taken.specs.Row.{TakenRow}
+use Rattle.taken.proofs.RowLaws.{row-count}
+use Rattle.drawing.proofs.Collecting.{roots-by-row}
+use Rattle.drawing.proofs.RefusalNumbers.{roots-right, collect-unsound, collect-bad-root, collect-short-list, collect-granted}
+use Rattle.drawing.proofs.collect.refusal.Statement.{statement}
+use Rattle.drawing.proofs.collect.refusal.Tie as tie
+
+-- ---- what is known once the judge has found the arena sound
+
+abbrev arena : tie.Else1 → List ℕ
+arena c = c .before .before .before .before .before .args .arena .now
+
+abbrev roots : tie.Else1 → List ℕ
+roots c = c .before .before .before .before .before .args .roots .now
+
+is-sound : (c : tie.Else1) → sound (arena c) ≡ true
+is-sound c = sym (c .before .judge .ensures .answered) ∙ not-false _ (c .if1 .left)
+
+sized : (c : tie.Else1) → Sized (arena c)
+sized c = sound-facts (arena c) (is-sound c) .size
+
+row-right : (c : tie.Else1) → TakenRow (arena c) (c .before .judge .last .1 .0)
+row-right c = c .before .judge .ensures .taken (not-false _ (c .if1 .left))
+
+-- and once the roots have been looked at
+roots-told : (c : tie.After-roots-right) → c .roots-right .result ≡ roots-right (arena (c .before .before .before)) (roots (c .before .before .before))
+roots-told c = c .roots-right .ensures ∙ roots-by-row (roots (c .before .before .before)) (row-right (c .before .before .before)) (c .before .before .segments .ensures)
+
+-- and the taken blocks counted
+counted : (c : tie.After-wide) → c .wide .result ≡ taken-count (arena (c .before .before .before .before .before .before .before))
+counted c =
+    c .wide .ensures ∙ c .before .taken-count .ensures
+    ∙ row-count (row-right (c .before .before .before .before .before .before .before)) (sym (c .before .before .before .before .before .before .segments .ensures))
+
+judge-requires : tie.Need-judge-requires
+judge-requires c κs = search needs
+
+returns : tie.Need-returns
+returns c = λ list _. sym (collect-unsound _ _ list (sym (c .before .judge .ensures .answered) ∙ not-true _ (c .if1 .taken)))
+
+segments-requires : tie.Need-segments-requires
+segments-requires c κs = omega (arith, sized c .some, sized c .long)
+
+roots-right-requires : tie.Need-roots-right-requires
+roots-right-requires c κs = omega (arith, sized (c .before .before), c .before .segments .ensures)
+
+returns-2 : tie.Need-returns-2
+returns-2 c = λ list _.
+    sym (collect-bad-root _ _ list (is-sound (c .before .before .before .before)) (sym (roots-told (c .before)) ∙ not-true _ (c .if2 .taken)))
+
+taken-count-requires : tie.Need-taken-count-requires
+taken-count-requires c κs = omega (arith, sized (c .before .before .before .before .before), c .before .before .before .before .segments .ensures)
+
+wide-requires : tie.Need-wide-requires
+wide-requires c κs = search needs
+
+returns-3 : tie.Need-returns-3
+returns-3 c = λ list long.
+    sym
+    (collect-short-list _ _ list (is-sound (c .before .before .before .before .before .before .before .before))
+    (sym (roots-told (c .before .before .before .before .before)) ∙ not-false _ (c .before .before .before .before .if2 .left))
+    (omega (arith, long, c .if3 .taken, counted (c .before))))
+
+returns-4 : tie.Need-returns-4
+returns-4 c = λ list long.
+    sym
+    (collect-granted _ _ list (is-sound (c .before .before .before .before .before .before .before .before))
+    (sym (roots-told (c .before .before .before .before .before)) ∙ not-false _ (c .before .before .before .before .if2 .left))
+    (omega (arith, long, c .if3 .left, counted (c .before))))
+
+pub refusal-spec : {M : Type 1} → statement M
+refusal-spec =
+    tie.close
+    (tie.spec
+    judge-requires
+    returns
+    segments-requires
+    roots-right-requires
+    returns-2
+    taken-count-requires
+    wide-requires
+    returns-3
+    returns-4)
