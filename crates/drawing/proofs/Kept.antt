@@ -1,24 +1,23 @@
 -- A granted write keeps the arena sound, takes and frees no block, and leaves every other block's words. Assumes nothing.
 use Prim.Native.Nat.{ℕ, _+_, _-_, _<_}
 use native.Mathlib.Omega.{arith}
-use mathlib.Core.Path.{_≡_, refl, sym, ap, _∙_, subst}
-use mathlib.Core.Logic.{_≢_}
 use mathlib.Core.Bool.{Bool, true, false, not, cond}
 use mathlib.Core.List.{List, [], _∷_}
+use mathlib.Core.Logic.{_≢_}
+use mathlib.Core.Path.{_≡_, refl, sym, ap, _∙_}
 use lib.Dec.{eqb, ltb}
 use borrow.Author.Tests.{ltb-true}
 use Rattle.model.specs.Word.{put}
-use Rattle.model.specs.Class.{blocks}
 use Rattle.model.specs.Layout.{handle, segment-of, index-of}
-use Rattle.model.specs.View.{class, block-of, offset, block, n-in, r-in}
-use Rattle.model.specs.Standing.{is-block, is-taken, none-or-taken, taken-count, standing-of}
+use Rattle.model.specs.View.{block-of, block, n-in, r-in}
+use Rattle.model.specs.Standing.{is-block, is-taken, none-or-taken, taken-count}
 use Rattle.model.specs.Sound.{sound}
-use Rattle.model.specs.Numbers.{Paper, paper, refuse, written-paper}
+use Rattle.model.specs.Numbers.{Paper, refuse, written-paper}
 use Rattle.model.specs.Calls.{Outcome, WriteReference, WritePlain}
 use Rattle.model.specs.declared.Written.{Written}
 use Rattle.model.specs.declared.Written.the-variants.{Done}
-use Rattle.words.proofs.HandleLaws.{handle-segment, handle-index, handle-back}
-use Rattle.soundness.proofs.Facts.{Block, block-facts, sound-facts, facts-sound}
+use Rattle.words.proofs.HandleLaws.{handle-back}
+use Rattle.soundness.proofs.Facts.{block-facts, sound-facts, facts-sound}
 use Rattle.soundness.proofs.Taken.{handle-facts}
 use Rattle.soundness.proofs.Views.{same-is-taken, same-taken-count}
 use Rattle.soundness.proofs.Writes as writes

@@ -1,13 +1,14 @@
 pub mod Collecting
-pub mod FieldReads
+pub mod FieldLaws
 pub mod History
-pub mod Judged
 pub mod Kept
+pub mod LookLaws
 pub mod Made
 pub mod Outcomes
+pub mod PutLaws
 pub mod RefusalNumbers
 pub mod Refusals
 pub mod RoomLaws
 pub mod Sizes
-pub mod Standings
+pub mod StandingLaws
 pub mod Unique

@@ -1,8 +1,8 @@
 -- The lowest refusal that applies, from the tests of its calls; and the outcome of reading a field. Assumes nothing.
 use Prim.Native.Nat.{ℕ, _≤_, _<_}
-use mathlib.Core.Path.{_≡_, refl, sym, ap, _∙_}
 use mathlib.Core.Bool.{Bool, true, false, not, and-false}
 use mathlib.Core.List.{List, [], _∷_, map}
+use mathlib.Core.Path.{_≡_, refl, _∙_}
 use lib.Dec.{eqb, leb}
 use borrow.Author.Tests.{lt-leb}
 use Rattle.model.specs.Class.{is-class}
@@ -11,11 +11,11 @@ use Rattle.model.specs.Standing.{is-taken}
 use Rattle.model.specs.Sound.{sound}
 use Rattle.model.specs.Numbers.{refuse, standing-values, read-paper}
 use Rattle.model.specs.Calls.{Outcome, block-refusal, PlainWords}
+use Rattle.model.specs.declared.Read.{Read}
 use Rattle.model.specs.declared.Standing.{Standing}
 use Rattle.model.specs.declared.Standing.the-variants.{None, Outside, Free, Taken}
-use Rattle.model.specs.declared.Read.{Read}
 use Rattle.words.proofs.ClassLaws.{bounds-class}
-use Rattle.drawing.specs.Ruled.{field-read}
+use Rattle.drawing.specs.Fields.{field-read}
 use Rattle.drawing.proofs.Outcomes.{refused, granted}
 
 -- ---- 2: the arena isn't sound

@@ -1,26 +1,25 @@
 -- Room of a class by the taken row: the ones of a segment's 64 words are its taken blocks, and what is left of its blocks is untaken.
 -- Assumes nothing.
 use Prim.Native.Nat.{ℕ, _+_, _-_, _*_, _≤_, _<_}
-use native.Mathlib.Omega.{arith}
 use native.Mathlib.Nat.{add-sub-of-le}
-use mathlib.Core.Path.{_≡_, refl, sym, ap, ap₂, _∙_}
-use mathlib.Core.Logic.{_≢_}
-use mathlib.Core.Bool.{Bool, true, false, not, cond}
+use native.Mathlib.Omega.{arith}
+use mathlib.Core.Bool.{Bool, not, cond}
 use mathlib.Core.List.{List}
-use lib.Dec.{eqb}
+use mathlib.Core.Logic.{_≢_}
+use mathlib.Core.Path.{_≡_, refl, sym, ap, ap₂, _∙_}
 use borrow.Author.Tests.{eq-eqb, ne-eqb}
 use Rattle.model.specs.Below.{count-below, sum-below}
 use Rattle.model.specs.Word.{word, bit}
 use Rattle.model.specs.Class.{blocks}
 use Rattle.model.specs.View.{segments, class}
-use Rattle.model.specs.Standing.{taken-at, is-taken}
+use Rattle.model.specs.Standing.{taken-at}
 use Rattle.model.specs.Calls.{room}
 use Rattle.laws.proofs.Below.{count-below-ext, count-below-add, count-below-none, count-below-not, count-below-le}
 use Rattle.words.proofs.ClassLaws.{bounds-class, blocks-most}
 use Rattle.soundness.proofs.Taken.{past-untaken}
-use Rattle.taken.specs.Row.{row-bit, TakenRow}
 use Rattle.taken.proofs.RowLaws.{is-taken-at}
-use Rattle.drawing.specs.Ruled.{ClassOf, SegmentOf, room-in, SegmentRoom}
+use Rattle.taken.specs.Row.{row-bit, TakenRow}
+use Rattle.drawing.specs.Rooms.{room-in, SegmentRoom}
 
 -- ---- the words of a segment
 

@@ -1,37 +1,36 @@
 -- Two outcomes that satisfy the promise of a call at the same inputs are equal: answer, arena and, of collect, work list. Assumes nothing.
-use Prim.Native.Nat.{ℕ, zero, suc, _≤_}
-use native.Mathlib.Omega.{arith}
+use Prim.Native.Nat.{ℕ, suc}
 use native.Mathlib.Decide.{ℕ-discrete}
-use mathlib.Core.Path.{_≡_, refl, sym, ap, ap₂, _∙_}
-use mathlib.Core.Logic.{_≢_}
+use native.Mathlib.Omega.{arith}
 use mathlib.Core.Bool.{Bool, cond}
 use mathlib.Core.List.{List, [], _∷_, _++_}
+use mathlib.Core.Logic.{_≢_}
+use mathlib.Core.Path.{_≡_, refl, sym, ap, ap₂, _∙_}
+use lib.Dec.{eqb}
 use lib.ListN.{length, getD, take, drop, take-append-drop}
 use lib.Seq.{length-take-le}
-use lib.Dec.{eqb}
 use borrow.Author.Tests.{ne-eqb}
 use Rattle.model.specs.Numbers.{Paper, paper, made-paper, allocated-paper, stood-paper, shaped-paper, read-paper, written-paper, room-paper, collected-paper}
-use Rattle.model.specs.Ways.{drawing}
 use Rattle.model.specs.Calls.{Outcome, Make, Allocate, AskStanding, AskShape, ReadReference, WriteReference, ReadPlain, WritePlain, PlainWords, AskRoom, Granted, Collect, collect-refusal, collected}
-use Rattle.model.specs.declared.Standing.{Standing}
-use Rattle.model.specs.declared.Standing.the-variants.{None, Outside, Free, Taken}
-use Rattle.model.specs.declared.Made.{Made}
-use Rattle.model.specs.declared.Made.the-variants as made
 use Rattle.model.specs.declared.Allocated.{Allocated}
 use Rattle.model.specs.declared.Allocated.the-variants as allocated
-use Rattle.model.specs.declared.Stood.{Stood}
-use Rattle.model.specs.declared.Stood.the-variants as stood
+use Rattle.model.specs.declared.Collected.{Collected}
+use Rattle.model.specs.declared.Collected.the-variants as collecteds
+use Rattle.model.specs.declared.Made.{Made}
+use Rattle.model.specs.declared.Made.the-variants as made
+use Rattle.model.specs.declared.Read.{Read}
+use Rattle.model.specs.declared.Read.the-variants as read
+use Rattle.model.specs.declared.Room.{Room}
+use Rattle.model.specs.declared.Room.the-variants as room
 use Rattle.model.specs.declared.Shape.{Shape}
 use Rattle.model.specs.declared.Shaped.{Shaped}
 use Rattle.model.specs.declared.Shaped.the-variants as shaped
-use Rattle.model.specs.declared.Read.{Read}
-use Rattle.model.specs.declared.Read.the-variants as read
+use Rattle.model.specs.declared.Standing.{Standing}
+use Rattle.model.specs.declared.Standing.the-variants.{None, Outside, Free, Taken}
+use Rattle.model.specs.declared.Stood.{Stood}
+use Rattle.model.specs.declared.Stood.the-variants as stood
 use Rattle.model.specs.declared.Written.{Written}
 use Rattle.model.specs.declared.Written.the-variants as written
-use Rattle.model.specs.declared.Room.{Room}
-use Rattle.model.specs.declared.Room.the-variants as room
-use Rattle.model.specs.declared.Collected.{Collected}
-use Rattle.model.specs.declared.Collected.the-variants as collecteds
 use Rattle.ways.proofs.Listing.{listing-unique}
 
 -- ---- an answer is known from its paper

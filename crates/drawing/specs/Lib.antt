@@ -1,2 +1,5 @@
+pub mod Fields
+pub mod Look
+pub mod Put
 pub mod Refusal
-pub mod Ruled
+pub mod Rooms

@@ -2,32 +2,33 @@
 //
 // A field's number counts from 0 among the references, or among the plain words.
 ghost use mathlib.Core.Path.{_≡_};
-ghost use mathlib.Core.Bool.{true};
 ghost use mathlib.Core.List.{[], _∷_};
 ghost use Prim.Native.Nat.{_+_, _-_, _<_};
 ghost use lib.Dec.{ltb};
 ghost use lib.ListN.{length};
 ghost use Rattle.model.specs.Word.{put};
 ghost use Rattle.model.specs.View.{n-in, r-in, reference-in, plain-in, plain-words-in};
-ghost use Rattle.drawing.specs.Ruled.{Fitting, PlainOf, field-read};
+ghost use Rattle.drawing.specs.Fields.{Fitting, PlainOf, field-read};
 use model::Read;
 use words::fields::header_n;
 use words::fields::header_r;
+use words::fields::shape;
 use words::slices::wide;
 
 pub fn has_reference(block: &[u32], f: u32) -> bool
     requires { ⌜ Fitting (now block) ⌝ }
     ensures { λ r. ⌜ r ≡ ltb f (r-in (now (block .entry))) ⌝ }
 {
-    f < header_r(block[0])
+    let s = shape(block);
+    f < s.r
 }
 
 pub fn has_plain(block: &[u32], f: u32) -> bool
     requires { ⌜ Fitting (now block) ⌝ }
     ensures { λ r. ⌜ r ≡ ltb f (n-in (now (block .entry)) - r-in (now (block .entry))) ⌝ }
 {
-    let header = block[0];
-    f < header_n(header) - header_r(header)
+    let s = shape(block);
+    f < s.n - s.r
 }
 
 // Where a plain word stands in its block: behind the header and the references.

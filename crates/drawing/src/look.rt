@@ -1,10 +1,10 @@
 // What a judged arena says of a handle.
 ghost use mathlib.Core.Path.{_≡_};
-ghost use Prim.Native.Nat.{_+_, _<_};
+ghost use Prim.Native.Nat.{_+_};
 ghost use Rattle.model.specs.Layout.{segment-of, index-of};
 ghost use Rattle.model.specs.View.{block, r-in};
 ghost use Rattle.model.specs.Standing.{is-block, none-or-taken, standing-of};
-ghost use Rattle.drawing.specs.Ruled.{Sized, Ruled, TakenBlock, Asked, BlockWords, ReferenceField, PlainField, TakenPlain};
+ghost use Rattle.drawing.specs.Look.{SomeHandle, Ruled, TakenBlock, Asked, BlockWords, ReferenceField, PlainField, TakenPlain};
 use crate::fields::has_plain;
 use crate::fields::has_reference;
 use crate::fields::plain_at;
@@ -48,7 +48,7 @@ pub fn is_value(arena: &[u32], row: &[u32; 4096], v: u32) -> bool
 
 // There is such a block: its segment is one of the arena's and not in the pool, and its index not past the class's blocks.
 fn is_block(arena: &[u32], h: Handle) -> bool
-    requires { ⌜ (0 < h .0) × Sized (now arena) ⌝ }
+    requires { ⌜ SomeHandle (now arena) (h .0) ⌝ }
     ensures { λ r. ⌜ r ≡ is-block (now (arena .entry)) (segment-of (h .0)) (index-of (h .0)) ⌝ }
 {
     let s = segment(h);

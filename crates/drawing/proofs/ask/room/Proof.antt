@@ -1,11 +1,10 @@
 -- `drawing::ask::room` keeps its promise. Assumes nothing.
-use borrow.Author.Needs.{needs}
 use native.Mathlib.Omega.{arith}
-use mathlib.Core.Path.{refl, ap, _∙_}
 use mathlib.Core.List.{[], _∷_}
+use mathlib.Core.Path.{refl, _∙_}
+use borrow.Author.Needs.{needs}
 use Rattle.model.specs.Calls.{room}
-use Rattle.words.proofs.ClassLaws.{bounds-class}
-use Rattle.drawing.proofs.Judged.{not-sound, is-ruled}
+use Rattle.drawing.proofs.LookLaws.{not-sound, is-ruled}
 use Rattle.drawing.proofs.Outcomes.{refused, granted}
 use Rattle.drawing.proofs.Refusals.{unsound, judged, low-class, high-class, a-class}
 use Rattle.drawing.proofs.ask.room.Statement.{statement}

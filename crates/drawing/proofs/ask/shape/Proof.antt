@@ -1,9 +1,9 @@
 -- `drawing::ask::shape` keeps its promise. Assumes nothing.
-use borrow.Author.Needs.{needs}
 use mathlib.Core.Path.{refl, ap, _∙_}
+use borrow.Author.Needs.{needs}
 use Rattle.model.specs.Standing.{shape-in, shape-of}
 use Rattle.model.specs.Numbers.{shape-values}
-use Rattle.drawing.proofs.Judged.{not-sound, is-ruled, not-taken, is-there}
+use Rattle.drawing.proofs.LookLaws.{not-sound, is-ruled, not-taken, is-there}
 use Rattle.drawing.proofs.Outcomes.{refused, granted}
 use Rattle.drawing.proofs.Refusals.{block-unsound, block-untaken, block-taken}
 use Rattle.drawing.proofs.ask.shape.Statement.{statement}

@@ -1,9 +1,9 @@
 -- `drawing::ask::standing` keeps its promise. Assumes nothing.
-use borrow.Author.Needs.{needs}
 use mathlib.Core.Path.{refl}
+use borrow.Author.Needs.{needs}
 use Rattle.model.specs.Standing.{standing-of}
 use Rattle.model.specs.Numbers.{standing-values}
-use Rattle.drawing.proofs.Judged.{not-sound, is-ruled}
+use Rattle.drawing.proofs.LookLaws.{not-sound, is-ruled}
 use Rattle.drawing.proofs.Outcomes.{refused, granted}
 use Rattle.drawing.proofs.Refusals.{unsound, judged, standing-zeros}
 use Rattle.drawing.proofs.ask.standing.Statement.{statement}

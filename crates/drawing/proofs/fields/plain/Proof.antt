@@ -1,13 +1,12 @@
 -- `drawing::fields::plain` gives plain word f of a block, if there is one. Assumes nothing.
-use borrow.Author.Needs.{needs}
-use Prim.Native.Nat.{ℕ}
+use Prim.Native.Nat.{_-_}
 use native.Mathlib.Omega.{arith}
 use mathlib.Core.Path.{ap, sym, _∙_}
+use borrow.Author.Needs.{needs}
 use borrow.Author.Tests.{ltb-true}
 use Rattle.model.specs.Word.{word}
-use Rattle.drawing.proofs.FieldReads.{found, missing}
-use Prim.Native.Nat.{_-_}
 use Rattle.model.specs.View.{n-in, r-in}
+use Rattle.drawing.proofs.FieldLaws.{found, missing}
 use Rattle.drawing.proofs.fields.plain.Statement.{statement}
 use Rattle.drawing.proofs.fields.plain.Tie as tie
 

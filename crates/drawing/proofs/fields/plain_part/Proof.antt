@@ -1,11 +1,9 @@
 -- `drawing::fields::plain_part` gives the plain words of a block. Assumes nothing.
-use borrow.Author.Needs.{needs}
-use Prim.Native.Nat.{ℕ}
-use native.Mathlib.Omega.{arith}
-use mathlib.Core.Path.{ap₂}
-use Rattle.model.specs.Word.{part}
 use Prim.Native.Nat.{_+_, _-_}
-use mathlib.Core.Path.{_≡_}
+use native.Mathlib.Omega.{arith}
+use mathlib.Core.Path.{ap₂, _≡_}
+use borrow.Author.Needs.{needs}
+use Rattle.model.specs.Word.{part}
 use Rattle.model.specs.View.{n-in, r-in}
 use Rattle.drawing.proofs.fields.plain_part.Statement.{statement}
 use Rattle.drawing.proofs.fields.plain_part.Tie as tie

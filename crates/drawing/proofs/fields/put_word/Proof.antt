@@ -1,8 +1,8 @@
 -- `drawing::fields::put_word` changes one word. Assumes nothing.
-use borrow.Author.Needs.{needs}
 use Prim.Native.Nat.{ℕ}
 use mathlib.Core.Path.{ap, sym, _∙_}
 use lib.ListN.{set}
+use borrow.Author.Needs.{needs}
 use Rattle.laws.proofs.Splice.{put-one}
 use Rattle.drawing.proofs.fields.put_word.Statement.{statement}
 use Rattle.drawing.proofs.fields.put_word.Tie as tie

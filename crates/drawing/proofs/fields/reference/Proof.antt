@@ -1,12 +1,12 @@
 -- `drawing::fields::reference` gives reference f of a block, if there is one. Assumes nothing.
-use borrow.Author.Needs.{needs}
 use Prim.Native.Nat.{ℕ, _+_}
 use native.Mathlib.Omega.{arith}
 use mathlib.Core.Path.{ap, sym, _∙_}
+use borrow.Author.Needs.{needs}
 use borrow.Author.Tests.{ltb-true}
 use Rattle.model.specs.Word.{word}
-use Rattle.drawing.proofs.FieldReads.{found, missing}
 use Rattle.model.specs.View.{r-in}
+use Rattle.drawing.proofs.FieldLaws.{found, missing}
 use Rattle.drawing.proofs.fields.reference.Statement.{statement}
 use Rattle.drawing.proofs.fields.reference.Tie as tie
 

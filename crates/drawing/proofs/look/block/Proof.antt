@@ -1,6 +1,6 @@
 -- `drawing::look::block` gives the words of a taken block. Assumes nothing.
 use borrow.Author.Needs.{needs}
-use Rattle.drawing.proofs.Judged.{block-there, block-words-are}
+use Rattle.drawing.proofs.LookLaws.{block-there, block-words-are}
 use Rattle.drawing.proofs.look.block.Statement.{statement}
 use Rattle.drawing.proofs.look.block.Tie as tie
 

@@ -1,6 +1,6 @@
 -- `drawing::look::has_plain_field` tells whether a taken block has plain word f. Assumes nothing.
 use borrow.Author.Needs.{needs}
-use Rattle.drawing.proofs.Judged.{plain-field}
+use Rattle.drawing.proofs.LookLaws.{plain-field}
 use Rattle.drawing.proofs.look.has_plain_field.Statement.{statement}
 use Rattle.drawing.proofs.look.has_plain_field.Tie as tie
 

@@ -1,6 +1,6 @@
 -- `drawing::look::has_reference_field` tells whether a taken block has reference f. Assumes nothing.
 use borrow.Author.Needs.{needs}
-use Rattle.drawing.proofs.Judged.{reference-field}
+use Rattle.drawing.proofs.LookLaws.{reference-field}
 use Rattle.drawing.proofs.look.has_reference_field.Statement.{statement}
 use Rattle.drawing.proofs.look.has_reference_field.Tie as tie
 

@@ -1,12 +1,12 @@
 -- `drawing::look::is_block` tells whether there is a block of a handle. Assumes nothing.
-use borrow.Author.Needs.{needs}
 use native.Mathlib.Omega.{arith}
 use mathlib.Core.Path.{_≡_, ap, ap₂, sym, _∙_}
 use lib.Dec.{ltb}
+use borrow.Author.Needs.{needs}
 use Rattle.model.specs.Class.{blocks}
 use Rattle.model.specs.Layout.{segment-of, index-of}
 use Rattle.model.specs.View.{class}
-use Rattle.drawing.proofs.Standings.{no-segment, pooled, a-block}
+use Rattle.drawing.proofs.StandingLaws.{no-segment, pooled, a-block}
 use Rattle.drawing.proofs.look.is_block.Statement.{statement}
 use Rattle.drawing.proofs.look.is_block.Tie as tie
 

@@ -1,8 +1,8 @@
 -- `drawing::look::is_block_taken` tells whether a handle is that of a taken block. Assumes nothing.
+use mathlib.Core.Path.{sym, _∙_}
 use borrow.Author.Needs.{needs}
-use mathlib.Core.Path.{sym, ap, _∙_}
 use Rattle.taken.proofs.RowLaws.{row-taken-is}
-use Rattle.drawing.proofs.Judged.{asked}
+use Rattle.drawing.proofs.LookLaws.{asked}
 use Rattle.drawing.proofs.look.is_block_taken.Statement.{statement}
 use Rattle.drawing.proofs.look.is_block_taken.Tie as tie
 

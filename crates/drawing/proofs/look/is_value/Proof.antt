@@ -1,6 +1,6 @@
 -- `drawing::look::is_value` tells whether a value is 0 or the handle of a taken block. Assumes nothing.
-use borrow.Author.Needs.{needs}
 use mathlib.Core.Path.{sym, _∙_}
+use borrow.Author.Needs.{needs}
 use Rattle.taken.proofs.RowLaws.{row-none-or-taken-is}
 use Rattle.drawing.proofs.look.is_value.Statement.{statement}
 use Rattle.drawing.proofs.look.is_value.Tie as tie

@@ -1,12 +1,10 @@
 -- `drawing::look::plain_field_at` gives the place of plain word f in a taken block. Assumes nothing.
-use borrow.Author.Needs.{needs}
 use Prim.Native.Nat.{_+_}
-use mathlib.Core.Path.{ap, _∙_}
-use Rattle.model.specs.View.{r-in}
-use Prim.Native.Nat.{_-_}
 use native.Mathlib.Omega.{arith}
 use mathlib.Core.List.{List}
-use Rattle.model.specs.View.{n-in}
+use mathlib.Core.Path.{ap, _∙_}
+use borrow.Author.Needs.{needs}
+use Rattle.model.specs.View.{r-in, n-in}
 use Rattle.drawing.proofs.look.plain_field_at.Statement.{statement}
 use Rattle.drawing.proofs.look.plain_field_at.Tie as tie
 

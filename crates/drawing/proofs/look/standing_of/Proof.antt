@@ -1,10 +1,10 @@
 -- `drawing::look::standing_of` gives the standing of a handle. Assumes nothing.
+use mathlib.Core.Path.{ap, sym, _∙_}
 use borrow.Author.Needs.{needs}
-use mathlib.Core.Path.{_≡_, ap, sym, _∙_}
 use Rattle.model.specs.Standing.{shape-in}
 use Rattle.model.specs.declared.Standing.the-variants.{Taken}
 use Rattle.soundness.proofs.Taken.{standing-taken}
-use Rattle.drawing.proofs.Standings.{stands-none, stands-free, stands-outside}
+use Rattle.drawing.proofs.StandingLaws.{stands-none, stands-free, stands-outside}
 use Rattle.drawing.proofs.look.standing_of.Statement.{statement}
 use Rattle.drawing.proofs.look.standing_of.Tie as tie
 

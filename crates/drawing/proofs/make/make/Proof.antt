@@ -1,11 +1,11 @@
 -- `drawing::make::make` meets its promise. Assumes nothing.
-use borrow.Author.Needs.{needs}
 use Prim.Native.Nat.{_+_, _*_}
 use native.Mathlib.Omega.{arith}
-use mathlib.Core.Path.{_≡_, refl}
 use mathlib.Core.List.{[]}
+use mathlib.Core.Path.{_≡_, refl}
 use lib.ListN.{length}
-use Rattle.model.specs.Calls.{make-refusal, fresh}
+use borrow.Author.Needs.{needs}
+use Rattle.model.specs.Calls.{fresh}
 use Rattle.drawing.proofs.Outcomes.{refused, granted}
 use Rattle.drawing.proofs.Sizes.{none-asked, too-many, other-length, right-size, made}
 use Rattle.drawing.proofs.make.make.Statement.{statement}

@@ -1,8 +1,8 @@
 -- `drawing::plain::plain_words` keeps its promise. Assumes nothing.
-use borrow.Author.Needs.{needs}
 use mathlib.Core.Path.{refl, ap, _∙_}
+use borrow.Author.Needs.{needs}
 use Rattle.model.specs.View.{plain-words-in}
-use Rattle.drawing.proofs.Judged.{not-sound, is-ruled, not-taken, is-there}
+use Rattle.drawing.proofs.LookLaws.{not-sound, is-ruled, not-taken, is-there}
 use Rattle.drawing.proofs.Refusals.{block-unsound, block-untaken, block-taken, no-plain-words, plain-words}
 use Rattle.drawing.proofs.plain.plain_words.Statement.{statement}
 use Rattle.drawing.proofs.plain.plain_words.Tie as tie

@@ -1,15 +1,16 @@
 -- `drawing::plain::write_plain` keeps its promise. Assumes nothing.
-use borrow.Author.Needs.{needs}
-use Prim.Native.Nat.{ℕ, _+_, _-_}
+use Prim.Native.Nat.{_+_, _-_}
 use native.Mathlib.Omega.{arith}
-use mathlib.Core.Path.{_≡_, refl, ap, sym, _∙_}
 use mathlib.Core.List.{[], _∷_}
+use mathlib.Core.Path.{refl, sym, _∙_}
 use lib.Dec.{ltb}
+use borrow.Author.Needs.{needs}
 use borrow.Author.Tests.{not-true, not-false}
 use Rattle.model.specs.Word.{put}
 use Rattle.model.specs.View.{offset, block, n-in, r-in}
-use Rattle.drawing.proofs.Judged.{not-sound, is-ruled, not-taken, is-there}
-use Rattle.drawing.proofs.Outcomes.{refused, granted}
+use Rattle.drawing.proofs.LookLaws.{not-sound, is-ruled, not-taken, is-there}
+use Rattle.drawing.proofs.Outcomes.{refused, granted-words}
+use Rattle.drawing.proofs.PutLaws.{put-at}
 use Rattle.drawing.proofs.Refusals.{block-unsound, block-untaken, block-taken, fails, holds}
 use Rattle.drawing.proofs.plain.write_plain.Statement.{statement}
 use Rattle.drawing.proofs.plain.write_plain.Tie as tie
@@ -82,9 +83,11 @@ returns-4 c =
     let v = a .v in
     let there = is-there (c .before .before .before .before .before .before .before .before .before .before .is-block-taken .ensures) (c .before .before .before .before .before .before .before .before .before .if2 .left) in
     let field = sym (c .before .before .before .before .before .before .before .has-plain-field .ensures .right) ∙ not-false _ (c .before .before .before .before .before .before .if3 .left) in
-    let at : offset ws h + c .before .before .before .before .plain-field-at .result ≡ offset ws h + 1 + r-in (block ws h) + f = omega (arith, c .before .before .before .before .plain-field-at .ensures) in
-    rw (c .before .before .put-in-block .ensures ∙ ap (λ (o : ℕ). put ws o (v ∷ [])) at)
-    (granted _ [] (put ws (offset ws h + 1 + r-in (block ws h) + f) (v ∷ [])) ws (block-taken ws h _ (there .is-sound) (there .taken) ∙ holds 6 0 (ltb f (n-in (block ws h) - r-in (block ws h))) field))
+    let o = c .before .before .before .before .plain-field-at .result in
+    let p = offset ws h + 1 + r-in (block ws h) + f in
+    let after = put-at ws _ (offset ws h + o) p v (c .before .before .put-in-block .ensures) (omega (arith, c .before .before .before .before .plain-field-at .ensures)) in
+    granted-words _ [] (put ws p (v ∷ [])) ws _
+    (block-taken ws h _ (there .is-sound) (there .taken) ∙ holds 6 0 (ltb f (n-in (block ws h) - r-in (block ws h))) field) after
 
 pub write-plain-spec : {M : Type 1} → statement M
 write-plain-spec =

@@ -1,6 +1,6 @@
 -- `drawing::put::offset_of` gives the offset of a taken block. Assumes nothing.
 use borrow.Author.Needs.{needs}
-use Rattle.drawing.proofs.Judged.{block-there, starts}
+use Rattle.drawing.proofs.LookLaws.{block-there, starts}
 use Rattle.drawing.proofs.put.offset_of.Statement.{statement}
 use Rattle.drawing.proofs.put.offset_of.Tie as tie
 

@@ -1,12 +1,12 @@
 -- `drawing::put::put_in_block` changes one word of a taken block. Assumes nothing.
-use borrow.Author.Needs.{needs}
 use Prim.Native.Nat.{ℕ, _+_, _-_, _≤_, _<_}
 use native.Mathlib.Omega.{arith}
-use mathlib.Core.Path.{_≡_, ap, _∙_}
 use mathlib.Core.List.{[], _∷_}
+use mathlib.Core.Path.{_≡_, ap, _∙_}
 use lib.ListN.{length}
+use borrow.Author.Needs.{needs}
 use Rattle.model.specs.Word.{put}
-use Rattle.drawing.proofs.Judged.{put-lent}
+use Rattle.drawing.proofs.PutLaws.{put-lent}
 use Rattle.drawing.proofs.put.put_in_block.Statement.{statement}
 use Rattle.drawing.proofs.put.put_in_block.Tie as tie
 

@@ -1,6 +1,6 @@
 -- `drawing::put::words_of` gives the number of words of a taken block. Assumes nothing.
-use borrow.Author.Needs.{needs}
 use mathlib.Core.Path.{ap, _∙_}
+use borrow.Author.Needs.{needs}
 use Rattle.model.specs.Class.{block-words}
 use Rattle.model.specs.View.{class}
 use Rattle.drawing.proofs.put.words_of.Statement.{statement}

@@ -1,12 +1,12 @@
 -- `drawing::references::read_reference` keeps its promise. Assumes nothing.
-use borrow.Author.Needs.{needs}
-use mathlib.Core.Path.{refl, ap, _∙_}
 use mathlib.Core.List.{List, [], _∷_}
+use mathlib.Core.Path.{refl, ap, _∙_}
 use lib.Dec.{ltb}
+use borrow.Author.Needs.{needs}
 use Rattle.model.specs.View.{block, r-in, reference-in}
-use Rattle.drawing.proofs.Judged.{not-sound, is-ruled, not-taken, is-there}
-use Rattle.drawing.proofs.Outcomes.{refused, granted}
-use Rattle.drawing.specs.Ruled.{field-read}
+use Rattle.drawing.specs.Fields.{field-read}
+use Rattle.drawing.proofs.LookLaws.{not-sound, is-ruled, not-taken, is-there}
+use Rattle.drawing.proofs.Outcomes.{refused}
 use Rattle.drawing.proofs.Refusals.{block-unsound, block-untaken, field-outcome}
 use Rattle.drawing.proofs.references.read_reference.Statement.{statement}
 use Rattle.drawing.proofs.references.read_reference.Tie as tie

@@ -1,16 +1,17 @@
 -- `drawing::references::write_reference` keeps its promise. Assumes nothing.
-use borrow.Author.Needs.{needs}
-use Prim.Native.Nat.{ℕ, _+_}
+use Prim.Native.Nat.{_+_}
 use native.Mathlib.Omega.{arith}
-use mathlib.Core.Path.{_≡_, refl, ap, sym, _∙_}
 use mathlib.Core.List.{[], _∷_}
+use mathlib.Core.Path.{refl, sym, _∙_}
 use lib.Dec.{ltb}
+use borrow.Author.Needs.{needs}
 use borrow.Author.Tests.{ltb-true, not-true, not-false}
 use Rattle.model.specs.Word.{put}
 use Rattle.model.specs.View.{offset, block, r-in}
 use Rattle.model.specs.Standing.{none-or-taken}
-use Rattle.drawing.proofs.Judged.{not-sound, is-ruled, not-taken, is-there}
-use Rattle.drawing.proofs.Outcomes.{refused, granted}
+use Rattle.drawing.proofs.LookLaws.{not-sound, is-ruled, not-taken, is-there}
+use Rattle.drawing.proofs.Outcomes.{refused, granted-words}
+use Rattle.drawing.proofs.PutLaws.{put-at}
 use Rattle.drawing.proofs.Refusals.{block-unsound, block-untaken, block-taken, fails, holds}
 use Rattle.drawing.proofs.references.write_reference.Statement.{statement}
 use Rattle.drawing.proofs.references.write_reference.Tie as tie
@@ -105,10 +106,10 @@ returns-5 c =
     let there = is-there (c .before .before .before .before .before .before .before .before .before .before .before .before .is-block-taken .ensures) (c .before .before .before .before .before .before .before .before .before .before .before .if2 .left) in
     let field = sym (c .before .before .before .before .before .before .before .before .before .has-reference-field .ensures .right) ∙ not-false _ (c .before .before .before .before .before .before .before .before .if3 .left) in
     let good = sym (c .before .before .before .before .before .is-value .ensures) ∙ not-false _ (c .before .before .before .before .if4 .left) in
-    let at : offset ws h + (1 + f) ≡ offset ws h + 1 + f = omega arith in
-    rw (c .before .before .put-in-block .ensures ∙ ap (λ (o : ℕ). put ws o (v ∷ [])) at)
-    (granted _ [] (put ws (offset ws h + 1 + f) (v ∷ [])) ws
-    (block-taken ws h _ (there .is-sound) (there .taken) ∙ holds 6 _ (ltb f (r-in (block ws h))) field ∙ holds 7 0 (none-or-taken ws v) good))
+    let after = put-at ws _ (offset ws h + (1 + f)) (offset ws h + 1 + f) v (c .before .before .put-in-block .ensures) (omega arith) in
+    granted-words _ [] (put ws (offset ws h + 1 + f) (v ∷ [])) ws _
+    (block-taken ws h _ (there .is-sound) (there .taken) ∙ holds 6 _ (ltb f (r-in (block ws h))) field ∙ holds 7 0 (none-or-taken ws v) good)
+    after
 
 pub write-reference-spec : {M : Type 1} → statement M
 write-reference-spec =

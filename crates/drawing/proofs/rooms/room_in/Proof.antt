@@ -1,8 +1,8 @@
 -- `drawing::rooms::room_in` counts the untaken blocks of a segment, if it is of the class. Assumes nothing.
-use borrow.Author.Needs.{needs}
-use native.Mathlib.Omega.{arith}
-use mathlib.Core.Path.{sym, ap, ap₂, _∙_}
 use Prim.Native.Nat.{_-_}
+use native.Mathlib.Omega.{arith}
+use mathlib.Core.Path.{sym, ap₂, _∙_}
+use borrow.Author.Needs.{needs}
 use Rattle.drawing.proofs.RoomLaws.{ones-within, own-room, no-room}
 use Rattle.drawing.proofs.rooms.room_in.Statement.{statement}
 use Rattle.drawing.proofs.rooms.room_in.Tie as tie

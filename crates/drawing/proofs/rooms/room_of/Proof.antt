@@ -1,12 +1,12 @@
 -- `drawing::rooms::room_of` gives the room of a class. The loop's invariant: the room of the first s segments is counted. Assumes nothing.
-use borrow.Author.Needs.{needs}
 use Prim.Native.Nat.{ℕ, _+_, _-_, _*_, _≤_}
 use native.Mathlib.Omega.{arith}
 use mathlib.Core.Path.{_≡_, ap, ap₂, sym, _∙_}
+use borrow.Author.Needs.{needs}
 use Rattle.model.specs.Below.{sum-below}
 use Rattle.model.specs.View.{segments}
 use Rattle.laws.proofs.Below.{sum-below-step}
-use Rattle.drawing.specs.Ruled.{room-in}
+use Rattle.drawing.specs.Rooms.{room-in}
 use Rattle.drawing.proofs.RoomLaws.{room-sum}
 use Rattle.drawing.proofs.rooms.room_of.Statement.{statement}
 use Rattle.drawing.proofs.rooms.room_of.Tie as tie

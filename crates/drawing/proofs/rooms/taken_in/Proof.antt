@@ -1,9 +1,9 @@
 -- `drawing::rooms::taken_in` counts the taken blocks of a segment. The loop's invariant: the ones of the first j words are counted.
 -- Assumes nothing.
-use borrow.Author.Needs.{needs}
 use Prim.Native.Nat.{ℕ, _+_, _-_, _*_, _≤_}
 use native.Mathlib.Omega.{arith}
 use mathlib.Core.Path.{_≡_, ap, ap₂, sym, _∙_}
+use borrow.Author.Needs.{needs}
 use Rattle.model.specs.Below.{count-below}
 use Rattle.model.specs.Word.{word, bit}
 use Rattle.laws.proofs.Below.{count-below-le}

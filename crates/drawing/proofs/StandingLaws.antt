@@ -1,17 +1,15 @@
 -- The standing of a handle, and whether it is that of a block, in the tests by which they are found. Assumes nothing.
 use Prim.Native.Nat.{ℕ, _≤_, _<_}
-use native.Mathlib.Omega.{arith}
-use mathlib.Core.Path.{_≡_, sym, ap, _∙_}
-use mathlib.Core.Logic.{_≢_}
-use mathlib.Core.Bool.{Bool, true, false, not, _&&_, and-false}
+use mathlib.Core.Bool.{true, false, and-false}
 use mathlib.Core.List.{List}
-use lib.Dec.{eqb, ltb}
+use mathlib.Core.Logic.{_≢_}
+use mathlib.Core.Path.{_≡_}
+use lib.Dec.{ltb}
 use borrow.Author.Tests.{lt-ltb, le-ltb, eq-eqb, ne-eqb}
 use Rattle.model.specs.Class.{blocks}
 use Rattle.model.specs.Layout.{segment-of, index-of}
 use Rattle.model.specs.View.{segments, class}
-use Rattle.model.specs.Standing.{in-pool, is-block, taken-at, is-taken, standing-of}
-use Rattle.model.specs.declared.Standing.{Standing}
+use Rattle.model.specs.Standing.{is-block, is-taken, standing-of}
 use Rattle.model.specs.declared.Standing.the-variants.{None, Outside, Free}
 
 -- ---- a block

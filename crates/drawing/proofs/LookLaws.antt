@@ -1,26 +1,26 @@
 -- What a judged arena gives to the calls: its size, its taken blocks, and the words of each. Assumes nothing.
-use Prim.Native.Nat.{ℕ, _+_, _-_, _≤_, _<_}
+use Prim.Native.Nat.{ℕ, _-_}
 use native.Mathlib.Omega.{arith}
-use mathlib.Core.Path.{_≡_, sym, ap, _∙_}
 use mathlib.Core.Bool.{Bool, true, false, not}
-use mathlib.Core.List.{List, [], _∷_, _++_}
-use lib.ListN.{length, take, drop}
+use mathlib.Core.List.{List}
+use mathlib.Core.Path.{_≡_, sym, ap, _∙_}
 use lib.Dec.{ltb}
 use borrow.Author.Tests.{ltb-true, not-true, not-false}
-use Rattle.model.specs.Word.{part, put}
+use Rattle.model.specs.Word.{part}
 use Rattle.model.specs.Class.{blocks, block-words}
 use Rattle.model.specs.Layout.{segment-of, index-of, block-at}
 use Rattle.model.specs.View.{segments, class, block-of, offset, block, n-in, r-in}
 use Rattle.model.specs.Standing.{is-taken}
 use Rattle.model.specs.Sound.{sound}
-use Rattle.laws.proofs.Splice.{length-part, length-put, put-mid, put-in-part}
 use Rattle.words.proofs.ClassLaws.{class-bounds}
-use Rattle.soundness.proofs.Facts.{Sound, sound-facts, block-length, block-end}
+use Rattle.soundness.proofs.Facts.{sound-facts, block-length, block-end}
 use Rattle.soundness.proofs.Taken.{handle-facts, taken-class, taken-n-room, taken-r-within, reference-inside, plain-inside}
 use Rattle.arena.specs.Inside.{Block}
 use Rattle.taken.specs.Row.{TakenRow}
 use Rattle.judge.specs.Judged.{Judged}
-use Rattle.drawing.specs.Ruled.{Ruled, TakenBlock, Asked, Fitting, BlockWords, ReferenceField, PlainField, Starts}
+use Rattle.drawing.specs.Fields.{Fitting}
+use Rattle.drawing.specs.Look.{Ruled, TakenBlock, Asked, BlockWords, ReferenceField, PlainField}
+use Rattle.drawing.specs.Put.{Starts}
 
 pub ruled : (ws row : List ℕ) → sound ws ≡ true → TakenRow ws row → Ruled ws row
 ruled ws row s t =
@@ -136,13 +136,3 @@ module _ (ws : List ℕ) (h f : ℕ) (b : TakenBlock ws h) (us : List ℕ) (own 
               (ltb-true f (n-in (block ws h) - r-in (block ws h)) (sym right ∙ t));
         };
       }
-
--- ---- one of its words is changed
-
--- a part of n words from o on is lent, and its word j becomes v
-pub put-lent : (ws : List ℕ) (o n j v : ℕ) (us : List ℕ) → o + n ≤ length ws → j < n → us ≡ put (part ws o n) j (v ∷ [])
-    → take o ws ++ (us ++ drop n (drop o ws)) ≡ put ws (o + j) (v ∷ [])
-put-lent ws o n j v us inside below e =
-    let long : length (part ws o n) ≡ n = length-part ws o n inside in
-    let same : length us ≡ n = ap length e ∙ length-put (part ws o n) j (v ∷ []) (omega arith) ∙ long in
-    put-mid o n ws us same ∙ ap (put ws o) e ∙ put-in-part ws o n j (v ∷ []) inside (omega arith)
