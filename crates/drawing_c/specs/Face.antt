@@ -3,8 +3,7 @@
 use Prim.Native.Nat.{ℕ}
 use mathlib.Core.List.{List}
 use mathlib.Core.Path.{_≡_}
-use Rattle.model.specs.Numbers.{Paper, standing-values}
-use Rattle.model.specs.declared.Standing.{Standing}
+use Rattle.model.specs.Numbers.{Paper}
 
 abbrev pub says : ℕ → List ℕ → Paper
 says e vs = record { number = e; values = vs }
@@ -14,8 +13,3 @@ pub record Told {A : Type 0} (on-paper : A → Paper) (promise : A → Type 0) (
   pub answer : A
   pub promised : promise answer
   pub told : on-paper answer ≡ says number values
-
--- a standing that is granted
-pub record StandingSays (s : Standing) (number : ℕ) (values : List ℕ) : Type 0 where
-  pub granted : number ≡ 0
-  pub told : standing-values s ≡ values

@@ -1,7 +1,6 @@
--- `drawing_c::paper::stood` gives the number and the values of each answer: in each arm the answer is that arm's. Assumes nothing.
-use mathlib.Core.Path.{ap}
+-- `drawing_c::paper::stood` gives the number and the values of each answer: in each arm of the match the answer is that arm's. Assumes nothing.
+use mathlib.Core.Path.{ap, sym, _∙_}
 use Rattle.model.specs.Numbers.{stood-paper}
-use Rattle.drawing_c.proofs.PaperLaws.{stood-there}
 use borrow.Author.Needs.{needs}
 use Rattle.drawing_c.proofs.paper.stood.Statement.{statement}
 use Rattle.drawing_c.proofs.paper.stood.Tie as tie
@@ -15,11 +14,15 @@ standing-requires c κs = search needs
 enum-told : tie.Need-enum-told
 enum-told c = search needs
 
+four-requires : tie.Need-four-requires
+four-requires c κs = search needs
+
 returns : tie.Need-returns
-returns c = stood-there (c .before .before .a .given .1) (c .standing .ensures)
+returns c = ap stood-paper (c .before .before .a .given .1) ∙ c .standing .ensures
 
 returns-2 : tie.Need-returns-2
-returns-2 c = ap stood-paper (c .enum-told .given .1)
+returns-2 c = ap stood-paper (c .before .enum-told .given .1) ∙ sym (c .four .ensures)
 
 pub stood-spec : {M : Type 1} → statement M
-stood-spec = tie.close (tie.spec enum-known-a standing-requires enum-told returns returns-2)
+stood-spec =
+    tie.close (tie.spec enum-known-a standing-requires enum-told four-requires returns returns-2)
