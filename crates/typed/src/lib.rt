@@ -73,7 +73,13 @@ fn take_byte(arena: &mut [u32], list: &mut [u32], line: &mut [u8], held: usize, 
     }
 }
 
-fn take_bytes(arena: &mut [u32], list: &mut [u32], line: &mut [u8], before: usize, bytes: &[u8]) -> Held
+fn take_bytes(
+    arena: &mut [u32],
+    list: &mut [u32],
+    line: &mut [u8],
+    before: usize,
+    bytes: &[u8],
+) -> Held
     requires { ⌜ before ≤ length (now line) ⌝ }
     ensures { λ r. ⌜ held-bytes r ≤ length (now (line .entry)) ⌝ }
 {

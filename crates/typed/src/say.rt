@@ -1,50 +1,13 @@
 // The answers in words. Each function says whether its answer could be written.
-ghost use mathlib.Core.Path.{_≡_};
 ghost use Prim.Native.Nat.{_≤_, _<_};
 ghost use lib.ListN.{length};
 ghost use Rattle.io.specs.Counts.{Counts};
 ghost use Rattle.typed.specs.Held.{live-count};
-ghost use Rattle.model.specs.Numbers.{allocated-paper, written-paper, collected-paper};
 use libc::STDOUT_FILENO;
 use model::Allocated;
 use model::Collected;
 use model::Written;
 use words::slices::wide;
-
-// The refusal number of an answer, 0 for a grant.
-fn allocated_number(a: Allocated) -> u32
-    ensures { λ r. ⌜ r ≡ allocated-paper a .number ⌝ }
-{
-    match a {
-        Allocated::Block(_) => 0,
-        Allocated::Unsound => 2,
-        Allocated::BadShape => 3,
-        Allocated::NoRoom => 4,
-    }
-}
-
-fn written_number(a: Written) -> u32
-    ensures { λ r. ⌜ r ≡ written-paper a .number ⌝ }
-{
-    match a {
-        Written::Done => 0,
-        Written::Unsound => 2,
-        Written::NoBlock => 5,
-        Written::NoField => 6,
-        Written::BadReference => 7,
-    }
-}
-
-fn collected_number(a: Collected) -> u32
-    ensures { λ r. ⌜ r ≡ collected-paper a .number ⌝ }
-{
-    match a {
-        Collected::Live(_) => 0,
-        Collected::Unsound => 2,
-        Collected::BadRoot => 8,
-        Collected::ShortList => 9,
-    }
-}
 
 // Puts bytes behind the first n of a text, as many as there is room for, and gives how many the text then has.
 fn put(text: &mut [u8], n: usize, bytes: &[u8]) -> usize
@@ -102,11 +65,11 @@ pub fn allocated(a: Allocated) -> bool {
     if let Allocated::Block(h) = a {
         return numbered(b"block ", h.0, b"\n");
     }
-    refused(allocated_number(a))
+    refused(numbers::allocated(a))
 }
 
 pub fn written(a: Written) -> bool {
-    let number = written_number(a);
+    let number = numbers::written(a);
     if number == 0 {
         return io::write_all(STDOUT_FILENO, b"ok\n");
     }
@@ -172,5 +135,5 @@ pub fn collected(a: Collected, list: &[u32]) -> bool
         let end = wide(c);
         return live(&list[..end], c);
     }
-    refused(collected_number(a))
+    refused(numbers::collected(a))
 }

@@ -1,29 +1,22 @@
+-- `typed::answer_held` is safe and ends: what is held is a part of the line. Assumes nothing.
 use native.Mathlib.Omega.{arith}
-use Rattle.io.proofs.Counting.{front}
 use borrow.Author.Needs.{needs}
+use Rattle.io.proofs.Counting.{front}
 use Rattle.typed.proofs.answer_held.Statement.{statement}
 use Rattle.typed.proofs.answer_held.Tie as tie
-use Rattle.typed.proofs.answer_held.Reads as reads
-use Rattle.typed.proofs.answer_held.Lts as lts
-use Rattle.typed.proofs.answer.Reads as answer-reads
 
--- src/lib.rt:46:25
 slice-aggregate-answer : tie.Need-slice-aggregate-answer
 slice-aggregate-answer c = front _ _ (omega arith)
 
--- src/lib.rt:46:5
 answer-requires : tie.Need-answer-requires
 answer-requires c κs = search needs
 
--- src/lib.rt:43:1
 same-length : tie.Need-same-length
 same-length c = search needs
 
--- src/lib.rt:43:1
 same-length-2 : tie.Need-same-length-2
 same-length-2 c = search needs
 
--- src/lib.rt:43:1
 returns : tie.Need-returns
 returns c = search needs
 

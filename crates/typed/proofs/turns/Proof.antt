@@ -1,14 +1,12 @@
-use native.Mathlib.Omega.{arith}
-use Rattle.typed.specs.Held.{held-bytes}
+-- `typed::turns` is safe and ends: what is held stays within the line. The measure is the turns that are left. Assumes nothing.
 use Prim.Native.Nat.{_-_, _≤_}
 use mathlib.Core.Path.{_≡_, ap}
+use native.Mathlib.Omega.{arith}
 use lib.ListN.{length}
 use borrow.Author.Needs.{needs}
+use Rattle.typed.specs.Held.{held-bytes}
 use Rattle.typed.proofs.turns.Statement.{statement}
 use Rattle.typed.proofs.turns.Tie as tie
-use Rattle.typed.proofs.turns.Reads as reads
-use Rattle.typed.proofs.turns.Lts as lts
-use Rattle.typed.proofs.turn.Reads as turn-reads
 
 abbrev Inv-loop : tie.InvT-loop
 Inv-loop arena₀ list₀ line₀ held₀ left₀ arena list line held left =
@@ -17,65 +15,50 @@ Inv-loop arena₀ list₀ line₀ held₀ left₀ arena list line held left =
 abbrev μ-loop : tie.MeasureT-loop
 μ-loop arena₀ list₀ line₀ held₀ left₀ arena list line held left = left
 
--- src/lib.rt:122:5
 loop-holds : tie.Need-loop-holds Inv-loop μ-loop
 loop-holds c = search needs
 
--- src/lib.rt:123:30
 turn-requires : tie.Need-turn-requires Inv-loop μ-loop
 turn-requires c κs = search needs
 
--- src/lib.rt:123:25
 enum-known-n : tie.Need-enum-known-n Inv-loop μ-loop
 enum-known-n c = search needs
 
--- src/lib.rt:124:13
 enum-told : tie.Need-enum-told Inv-loop μ-loop
 enum-told c = search needs
 
--- src/lib.rt:124:13
 same-length : tie.Need-same-length Inv-loop μ-loop
 same-length c = search needs
 
--- src/lib.rt:124:13
 same-length-2 : tie.Need-same-length-2 Inv-loop μ-loop
 same-length-2 c = search needs
 
--- src/lib.rt:124:13
 same-length-3 : tie.Need-same-length-3 Inv-loop μ-loop
 same-length-3 c = search needs
 
--- src/lib.rt:124:13
 returns : tie.Need-returns Inv-loop μ-loop
 returns c = search needs
 
--- src/lib.rt:127:9
 sub-left : tie.Need-sub-left Inv-loop μ-loop
 sub-left c = search needs
 
--- src/lib.rt:122:5
 loop-less : tie.Need-loop-less Inv-loop μ-loop
 loop-less c = search needs
 
--- src/lib.rt:122:5
 loop-again : tie.Need-loop-again Inv-loop μ-loop
 loop-again c =
     let told : held-bytes (c .before .before .before .before .before .before .before .before .before .turn .result) ≡ c .before .n .given .0 .0 = ap held-bytes (c .before .n .given .1) in
     (omega (arith, told, c .before .before .before .before .before .before .before .before .before .turn .ensures), search needs, search needs, search needs)
 
--- src/lib.rt:119:1
 same-length-4 : tie.Need-same-length-4 Inv-loop μ-loop
 same-length-4 c = search needs
 
--- src/lib.rt:119:1
 same-length-5 : tie.Need-same-length-5 Inv-loop μ-loop
 same-length-5 c = search needs
 
--- src/lib.rt:119:1
 same-length-6 : tie.Need-same-length-6 Inv-loop μ-loop
 same-length-6 c = search needs
 
--- src/lib.rt:119:1
 returns-2 : tie.Need-returns-2 Inv-loop μ-loop
 returns-2 c = search needs
 

@@ -1,25 +1,18 @@
-use mathlib.Core.Path.{subst}
-use Rattle.model.specs.declared.Collected.{Collected}
-use Rattle.typed.specs.Held.{live-count}
+-- `typed::say::collected` is safe and ends: the handles of a live answer are a part of the list. Assumes nothing.
 use Prim.Native.Nat.{_≤_}
+use mathlib.Core.Path.{subst}
 use native.Mathlib.Omega.{arith}
 use lib.ListN.{length}
-use Rattle.io.proofs.Counting.{front}
 use borrow.Author.Needs.{needs}
+use Rattle.io.proofs.Counting.{front}
+use Rattle.model.specs.declared.Collected.{Collected}
+use Rattle.typed.specs.Held.{live-count}
 use Rattle.typed.proofs.say.collected.Statement.{statement}
 use Rattle.typed.proofs.say.collected.Tie as tie
-use Rattle.typed.proofs.say.collected.Reads as reads
-use Rattle.typed.proofs.say.collected.Lts as lts
-use Rattle.typed.proofs.say.collected_number.Reads as collected-number-reads
-use Rattle.typed.proofs.say.live.Reads as live-reads
-use Rattle.typed.proofs.say.refused.Reads as refused-reads
-use Rattle.words.proofs.slices.wide.Reads as wide-reads
 
--- src/say.rt:171:28
 enum-known-a : tie.Need-enum-known-a
 enum-known-a c = search needs
 
--- src/say.rt:172:13
 wide-requires : tie.Need-wide-requires
 wide-requires c κs = search needs
 
@@ -32,23 +25,18 @@ bound c =
 slice-aggregate-live : tie.Need-slice-aggregate-live
 slice-aggregate-live c = front _ _ (bound c)
 
--- src/say.rt:173:9
 live-requires : tie.Need-live-requires
 live-requires c κs = search needs
 
--- src/say.rt:173:9
 returns : tie.Need-returns
 returns c = search needs
 
--- src/say.rt:175:13
-collected-number-requires : tie.Need-collected-number-requires
-collected-number-requires c κs = search needs
+collected-requires : tie.Need-collected-requires
+collected-requires c κs = search needs
 
--- src/say.rt:175:5
 refused-requires : tie.Need-refused-requires
 refused-requires c κs = search needs
 
--- src/say.rt:168:1
 returns-2 : tie.Need-returns-2
 returns-2 c = search needs
 
@@ -61,6 +49,6 @@ collected-spec =
     slice-aggregate-live
     live-requires
     returns
-    collected-number-requires
+    collected-requires
     refused-requires
     returns-2)

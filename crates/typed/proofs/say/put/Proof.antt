@@ -1,13 +1,12 @@
+-- `typed::say::put` meets its contract: the text grows by a byte a turn, and not past its end. The measure is the bytes that are left. Assumes nothing.
 use Prim.Native.Nat.{_-_, _≤_}
 use mathlib.Core.Path.{_≡_, _∙_}
 use native.Mathlib.Omega.{arith}
 use lib.ListN.{length}
-use Rattle.io.proofs.Counting.{counts}
 use borrow.Author.Needs.{needs}
+use Rattle.io.proofs.Counting.{counts}
 use Rattle.typed.proofs.say.put.Statement.{statement}
 use Rattle.typed.proofs.say.put.Tie as tie
-use Rattle.typed.proofs.say.put.Reads as reads
-use Rattle.typed.proofs.say.put.Lts as lts
 
 abbrev Inv-loop : tie.InvT-loop
 Inv-loop text₀ n bytes end₀ at₀ text end at = (end ≤ length text₀) × (length text ≡ length text₀)
@@ -15,47 +14,36 @@ Inv-loop text₀ n bytes end₀ at₀ text end at = (end ≤ length text₀) × 
 abbrev μ-loop : tie.MeasureT-loop
 μ-loop text₀ n bytes end₀ at₀ text end at = length bytes - at
 
--- src/say.rt:56:5
 loop-holds : tie.Need-loop-holds Inv-loop μ-loop
 loop-holds c = search needs
 
--- src/say.rt:58:13
 same-length : tie.Need-same-length Inv-loop μ-loop
 same-length c = search needs
 
--- src/say.rt:58:13
 returns : tie.Need-returns Inv-loop μ-loop
 returns c = counts _ _ (omega arith)
 
--- src/say.rt:60:21
 shared-slice-read-text : tie.Need-shared-slice-read-text Inv-loop μ-loop
 shared-slice-read-text c = search needs
 
--- src/say.rt:60:9
 slice-write-text : tie.Need-slice-write-text Inv-loop μ-loop
 slice-write-text c = search needs
 
--- src/say.rt:61:9
 add-end : tie.Need-add-end Inv-loop μ-loop
 add-end c = search needs
 
--- src/say.rt:62:9
 add-at : tie.Need-add-at Inv-loop μ-loop
 add-at c = search needs
 
--- src/say.rt:56:5
 loop-less : tie.Need-loop-less Inv-loop μ-loop
 loop-less c = search needs
 
--- src/say.rt:56:5
 loop-again : tie.Need-loop-again Inv-loop μ-loop
 loop-again c = search needs
 
--- src/say.rt:50:1
 same-length-2 : tie.Need-same-length-2 Inv-loop μ-loop
 same-length-2 c = search needs
 
--- src/say.rt:50:1
 returns-2 : tie.Need-returns-2 Inv-loop μ-loop
 returns-2 c = counts _ _ (omega arith)
 

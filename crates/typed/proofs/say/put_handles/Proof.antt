@@ -1,14 +1,12 @@
+-- `typed::say::put_handles` meets its contract: the count stays within the text. The measure is the handles that are left. Assumes nothing.
 use Prim.Native.Nat.{_-_, _≤_}
 use mathlib.Core.Path.{_≡_, _∙_}
 use native.Mathlib.Omega.{arith}
 use lib.ListN.{length}
-use Rattle.io.proofs.Counting.{counts}
 use borrow.Author.Needs.{needs}
+use Rattle.io.proofs.Counting.{counts}
 use Rattle.typed.proofs.say.put_handles.Statement.{statement}
 use Rattle.typed.proofs.say.put_handles.Tie as tie
-use Rattle.typed.proofs.say.put_handles.Reads as reads
-use Rattle.typed.proofs.say.put_handles.Lts as lts
-use Rattle.typed.proofs.say.put_handle.Reads as put-handle-reads
 
 abbrev Inv-loop : tie.InvT-loop
 Inv-loop text₀ handles n₀ at₀ text n at = (n ≤ length text) × (length text ≡ length text₀)
@@ -16,39 +14,30 @@ Inv-loop text₀ handles n₀ at₀ text n at = (n ≤ length text) × (length t
 abbrev μ-loop : tie.MeasureT-loop
 μ-loop text₀ handles n₀ at₀ text n at = length handles - at
 
--- src/say.rt:122:5
 loop-holds : tie.Need-loop-holds Inv-loop μ-loop
 loop-holds c = search needs
 
--- src/say.rt:123:33
 mul-put-handle : tie.Need-mul-put-handle Inv-loop μ-loop
 mul-put-handle c = search needs
 
--- src/say.rt:123:33
 shared-slice-read-put-handle : tie.Need-shared-slice-read-put-handle Inv-loop μ-loop
 shared-slice-read-put-handle c = search needs
 
--- src/say.rt:123:9
 put-handle-requires : tie.Need-put-handle-requires Inv-loop μ-loop
 put-handle-requires c κs = search needs
 
--- src/say.rt:124:9
 add-at : tie.Need-add-at Inv-loop μ-loop
 add-at c = search needs
 
--- src/say.rt:122:5
 loop-less : tie.Need-loop-less Inv-loop μ-loop
 loop-less c = search needs
 
--- src/say.rt:122:5
 loop-again : tie.Need-loop-again Inv-loop μ-loop
 loop-again c = search needs
 
--- src/say.rt:117:1
 same-length : tie.Need-same-length Inv-loop μ-loop
 same-length c = search needs
 
--- src/say.rt:117:1
 returns : tie.Need-returns Inv-loop μ-loop
 returns c = counts _ _ (omega arith)
 
