@@ -1,14 +1,16 @@
 //! The second program: drives the proved library and an independent implementation of document 01 with the same
 //! random calls, on sound and damaged arenas, and compares answer, arena and work list word by word after each.
 //!
-//!     second [rounds] [seed]
+//!     second ROUNDS SEED PROGRAM ARGUMENTS
+//!
+//! PROGRAM is `serve.c` linked with the library.
 //!
 //! Prints the seed and how often each call gave each answer; at the first difference prints it and ends with 1.
 
 mod face;
 mod paper;
 
-use face::Answer;
+use face::{Answer, Library};
 use std::collections::BTreeMap;
 use std::process::exit;
 
@@ -81,19 +83,20 @@ impl Call {
         }
     }
 
-    fn on_library(&self, ws: &mut [u32], list: &mut [u32]) -> Answer {
+    fn arguments(&self) -> [u32; 3] {
+        match *self {
+            Call::Allocate(n, r, tag) => [n, r, u32::from(tag)],
+            Call::WriteReference(h, f, v) | Call::WritePlain(h, f, v) => [h, f, v],
+            Call::ReadReference(h, f) | Call::ReadPlain(h, f) => [h, f, 0],
+            Call::Make(a) | Call::Standing(a) | Call::Shape(a) | Call::PlainWords(a) | Call::Room(a) => [a, 0, 0],
+            Call::Collect(..) => [0; 3],
+        }
+    }
+
+    fn on_library(&self, library: &mut Library, ws: &mut [u32], list: &mut [u32]) -> Answer {
         match self {
-            &Call::Make(n) => face::make(ws, n),
-            &Call::Allocate(n, r, tag) => face::allocate(ws, n, r, tag),
-            &Call::Standing(h) => face::standing(ws, h),
-            &Call::Shape(h) => face::shape(ws, h),
-            &Call::ReadReference(h, f) => face::read_reference(ws, h, f),
-            &Call::WriteReference(h, f, v) => face::write_reference(ws, h, f, v),
-            &Call::ReadPlain(h, f) => face::read_plain(ws, h, f),
-            &Call::WritePlain(h, f, v) => face::write_plain(ws, h, f, v),
-            &Call::PlainWords(h) => face::plain_words(ws, h),
-            &Call::Room(i) => face::room(ws, i),
-            Call::Collect(roots, len) => face::collect(ws, roots, &mut list[..*len]),
+            Call::Collect(roots, len) => library.call(self.kind() as u32, self.arguments(), ws, roots, &mut list[..*len]),
+            _ => library.call(self.kind() as u32, self.arguments(), ws, &[], &mut []),
         }
     }
 
@@ -116,6 +119,7 @@ impl Call {
 
 /// What the run has seen so far.
 struct Run {
+    library: Library,
     seed: u64,
     random: Random,
     calls: u64,
@@ -136,7 +140,7 @@ impl Run {
         let listed = if let Call::Collect(_, len) = call { *len } else { 0 };
         let before: Vec<u32> = (0..listed + 8).map(|_| self.random.word()).collect();
         let (mut list, mut paper_list) = (before.clone(), before);
-        let answer = call.on_library(ws, &mut list);
+        let answer = call.on_library(&mut self.library, ws, &mut list);
         let wanted = call.on_paper(&mut on_paper, &mut paper_list);
         self.calls += 1;
         *self.seen.entry((call.kind(), wanted.0)).or_default() += 1;
@@ -303,7 +307,7 @@ impl Run {
             // the library alone up to the last few of a segment, where the two are compared
             let near = paper::blocks(class) - k % paper::blocks(class);
             let call = Call::Allocate(n, n.min(1), 0);
-            let answer = if near <= 2 || near == paper::blocks(class) || k == most { self.compare(&mut ws, &call) } else { call.on_library(&mut ws, &mut []) };
+            let answer = if near <= 2 || near == paper::blocks(class) || k == most { self.compare(&mut ws, &call) } else { call.on_library(&mut self.library, &mut ws, &mut []) };
             if answer.0 == 0 {
                 d.handles.push(answer.1[0] as u32);
             }
@@ -324,11 +328,15 @@ impl Run {
 }
 
 fn main() {
-    let mut args = std::env::args().skip(1).map(|a| a.parse::<u64>().expect("a number"));
-    let rounds = args.next().unwrap_or(60);
-    let seed = args.next().unwrap_or(20261115);
+    let args: Vec<String> = std::env::args().skip(1).collect();
+    if args.len() < 3 {
+        println!("second ROUNDS SEED PROGRAM ARGUMENTS");
+        exit(2);
+    }
+    let number = |k: usize| args[k].parse::<u64>().expect("a number");
+    let (rounds, seed) = (number(0), number(1));
     println!("second program: seed {seed}, {rounds} rounds");
-    let mut run = Run { seed, random: Random(seed), calls: 0, seen: BTreeMap::new() };
+    let mut run = Run { library: Library::start(&args[2..]), seed, random: Random(seed), calls: 0, seen: BTreeMap::new() };
     for class in 3..=12 {
         run.full(class);
     }

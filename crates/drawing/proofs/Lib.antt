@@ -5,6 +5,7 @@ pub mod Kept
 pub mod LookLaws
 pub mod Made
 pub mod Outcomes
+pub mod PlaceLaws
 pub mod PutLaws
 pub mod RefusalNumbers
 pub mod Refusals

@@ -20,7 +20,7 @@ use words::handles::segment;
 use words::slices::wide;
 
 // Where a taken block begins, and how many words it has.
-fn offset_of(arena: &[u32], h: Handle) -> WordOffset
+pub fn offset_of(arena: &[u32], h: Handle) -> WordOffset
     requires { ⌜ TakenBlock (now arena) (h .0) ⌝ }
     ensures { λ r. ⌜ Starts (now (arena .entry)) (h .0) (r .0) ⌝ }
 {
