@@ -1,0 +1,63 @@
+-- `typed::say::pieces` is safe and ends. The measure is the handles that are left. Assumes nothing.
+use Prim.Native.Nat.{_-_, _≤_}
+use lib.ListN.{length}
+use borrow.Author.Needs.{needs}
+use Rattle.typed.proofs.say.pieces.Statement.{statement}
+use Rattle.typed.proofs.say.pieces.Tie as tie
+
+abbrev Inv-loop : tie.InvT-loop
+Inv-loop handles at₀ at = at ≤ length handles
+
+abbrev μ-loop : tie.MeasureT-loop
+μ-loop handles at₀ at = length handles - at
+
+loop-holds : tie.Need-loop-holds Inv-loop μ-loop
+loop-holds c = search needs
+
+piece-end-requires : tie.Need-piece-end-requires Inv-loop μ-loop
+piece-end-requires c κs = search needs
+
+mul-piece : tie.Need-mul-piece Inv-loop μ-loop
+mul-piece c = search needs
+
+sub-piece : tie.Need-sub-piece Inv-loop μ-loop
+sub-piece c = search needs
+
+part-piece-start : tie.Need-part-piece-start Inv-loop μ-loop
+part-piece-start c = search needs
+
+part-piece-end : tie.Need-part-piece-end Inv-loop μ-loop
+part-piece-end c = search needs
+
+piece-requires : tie.Need-piece-requires Inv-loop μ-loop
+piece-requires c κs = search needs
+
+returns : tie.Need-returns Inv-loop μ-loop
+returns c = search needs
+
+loop-less : tie.Need-loop-less Inv-loop μ-loop
+loop-less c = search needs
+
+loop-again : tie.Need-loop-again Inv-loop μ-loop
+loop-again c = search needs
+
+returns-2 : tie.Need-returns-2 Inv-loop μ-loop
+returns-2 c = search needs
+
+pub pieces-spec : {M : Type 1} → statement M
+pieces-spec =
+    tie.close
+    (tie.spec
+    Inv-loop
+    μ-loop
+    loop-holds
+    piece-end-requires
+    mul-piece
+    sub-piece
+    part-piece-start
+    part-piece-end
+    piece-requires
+    returns
+    loop-less
+    loop-again
+    returns-2)
