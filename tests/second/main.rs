@@ -261,18 +261,12 @@ impl Run {
         }
     }
 
-    /// One drawing from make on.
-    fn round(&mut self) {
-        let segments = match self.random.below(6) {
-            0 => 1 + self.random.below(64) as u32,
-            1 => 1,
-            _ => 1 + self.random.below(4) as u32,
-        };
+    /// One drawing of so many segments, from make on.
+    fn round(&mut self, segments: u32, steps: usize) {
         let small = self.random.one_in(2);
         let mut ws: Vec<u32> = (0..paper::arena_length(segments as usize)).map(|_| self.random.word()).collect();
         self.compare(&mut ws, &Call::Make(segments));
         let mut d = Drawing { ws, handles: vec![], segments };
-        let steps = if segments > 8 { 40 } else { 60 + self.random.below(400) };
         for _ in 0..steps {
             let call = self.call(&d, small);
             let mut ws = std::mem::take(&mut d.ws);
@@ -340,8 +334,13 @@ fn main() {
     for class in 3..=12 {
         run.full(class);
     }
+    for segments in 1..=64 {
+        run.round(segments, 12);
+    }
     for _ in 0..rounds {
-        run.round();
+        let segments = 1 + run.random.below(5) as u32;
+        let steps = 60 + run.random.below(400);
+        run.round(segments, steps);
     }
     let mut missing = vec![];
     for (kind, name) in NAMES.iter().enumerate() {
