@@ -181,6 +181,40 @@ void straight_levels(uint32_t *rec, uint32_t class, uint32_t rank)
             set_bit(rec, class, k);
 }
 
+/* Gives block k of segment s, of rank q in its class. */
+static uint32_t give(uint32_t *a, uint32_t s, uint32_t k, uint32_t q, uint32_t header)
+{
+    uint32_t i = class_of(a, s), *b = (uint32_t *)block_at(a, s, k);
+    memset(b, 0, 1u << i);
+    b[0] = header;
+    a[i - 2] = q << 24 | (k + 1) << 12;
+    return s * 2048 + k + 1;
+}
+
+uint32_t straight_allocate(uint32_t *arena, size_t len, uint32_t n, uint32_t r, uint8_t tag, uint32_t *handle)
+{
+    *handle = 0;
+    if (!straight_sound(arena, len))
+        return 2;
+    if (n > 1023 || r > n)
+        return 3;
+    uint32_t i = class_for(n), m = members(arena, i), header = n << 20 | r << 8 | tag;
+    for (uint32_t q = 0; q < m; q++)
+        for (uint32_t s = 0; s < segments_of(arena); s++)
+            for (uint32_t k = 0; class_of(arena, s) == i && rank_of(arena, s) == q && k < straight_blocks[i]; k++)
+                if (!taken_at(arena, s, k)) {
+                    *handle = give(arena, s, k, q, header);
+                    return 0;
+                }
+    for (uint32_t s = 0; s < segments_of(arena); s++)
+        if (class_of(arena, s) == 0) {
+            fresh(arena + HEAD + RECORD * s, i, m, 0);
+            *handle = give(arena, s, 0, m, header);
+            return 0;
+        }
+    return 4;
+}
+
 static void rank_anew(uint32_t *a, const uint32_t *list, uint32_t c)
 {
     uint32_t n = segments_of(a), live[64] = {0}, class[64], rank[64];
