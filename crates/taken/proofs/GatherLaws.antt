@@ -26,7 +26,7 @@ use Rattle.words.proofs.ClassLaws.{bounds-class, class-room}
 use Rattle.words.proofs.HandleLaws.{block-inside, block-in-arena}
 use Rattle.taken.specs.Row.{TakenRow}
 use Rattle.taken.specs.Gather.{header-right, references-in, headed, references-of, Copied, Added, GatheredBelow, Of, AtWord}
-use Rattle.taken.proofs.RowLaws.{taken-at-inside, is-taken-at}
+use Rattle.taken.proofs.RowLaws.{taken-at-inside, is-taken-at, row-bit-taken}
 
 -- ---- copying one reference more
 
@@ -345,10 +345,10 @@ module _ {ws : List ℕ} {N s i : ℕ} (o : Of ws N s i) where
 -- ---- word by word
 
 pub row-word-bits : {ws row : List ℕ} → TakenRow ws row → (s j b : ℕ) → s < segments ws → j < 64 → b < 32
-    → bit (word row (64 * s + j)) b ≡ taken-at ws s (32 * j + b)
+    → bit (word row (1 + 64 * s + j)) b ≡ taken-at ws s (32 * j + b)
 row-word-bits {ws} {row} t s j b there inside small =
     let x : ℕ = 2048 * s + 32 * j + b in
-    ap₂ (λ (o c : ℕ). bit (word row o) c) (omega arith) (omega arith) ∙ t .taken x (omega arith) ∙ is-taken-at ws x
+    ap₂ (λ (o c : ℕ). bit (word row o) c) (omega arith) (omega arith) ∙ row-bit-taken t x (omega arith) ∙ is-taken-at ws x
     ∙ ap₂ (taken-at ws) (omega arith) (omega arith)
 
 -- the last word may have bits past the last block

@@ -1,6 +1,6 @@
 -- Laws of the judge: with right headers, all is right with a segment's taken blocks where the gathered references are each 0 or a taken block.
 -- Assumes nothing.
-use Prim.Native.Nat.{ℕ, zero, suc, _+_, _≤_, _<_}
+use Prim.Native.Nat.{ℕ, zero, suc, _+_, _*_, _≤_, _<_}
 use mathlib.Core.Path.{_≡_, refl, sym, ap, ap₂, _∙_}
 use mathlib.Core.Bool.{Bool, true, false, not, _&&_, _||_, and-assoc}
 use mathlib.Core.List.{List, _++_}
@@ -8,23 +8,23 @@ use native.Mathlib.Omega.{arith}
 use lib.Dec.{eqb, leb}
 use lib.ListN.{length, take, length-append, List·getD-append}
 use lib.Seq.{length-take-le, getD-take, getD-append-add}
+use borrow.Author.Tests.{ne-eqb}
 use Rattle.model.specs.Below.{all-below, lists-below}
 use Rattle.model.specs.Word.{word, part}
-use Rattle.model.specs.Class.{blocks, class-of}
+use Rattle.model.specs.Class.{blocks, block-words, class-of}
+use Rattle.model.specs.Layout.{block-at}
 use Rattle.model.specs.View.{segments, class, block-of, n-in, r-in, reference-in}
 use Rattle.model.specs.Standing.{in-pool, taken-at, none-or-taken}
 use Rattle.model.specs.Sound.{block-right, taken-right}
 use Rattle.laws.proofs.Below.{all-below-at, all-below-ext, all-below-add, all-below-fails, all-below-finds}
 use Rattle.laws.proofs.Splice.{length-part, word-part}
-use Rattle.taken.specs.Row.{TakenRow, row-none-or-taken}
-use Rattle.taken.specs.Gather.{header-right, headed, references-of, segment-right, GatheredBelow, Of}
-use Rattle.taken.proofs.RowLaws.{row-none-or-taken-is}
-use Rattle.taken.proofs.GatherLaws.{header-room, headed-free, headed-taken, references-free, references-taken, block-long}
+use Rattle.words.proofs.ClassLaws.{bounds-class, blocks-most}
+use Rattle.taken.specs.Row.{TakenRow, row-taken, row-none-or-taken}
+use Rattle.taken.specs.Gather.{all-words, references-in, header-right, headed, references-of, right-at, segment-right, GatheredBelow, Of}
+use Rattle.taken.proofs.RowLaws.{row-none-or-taken-is, row-taken-is, is-taken-at}
+use Rattle.taken.proofs.GatherLaws.{header-room, headed-free, headed-taken, references-free, references-taken, block-long, block-handed, taken-inside}
 
 -- ---- a test of each word of a list
-
-abbrev all-words : (ℕ → Bool) → List ℕ → Bool
-all-words p xs = all-below (length xs) (λ f. p (word xs f))
 
 all-words-append : (p : ℕ → Bool) (xs ys : List ℕ) → all-words p (xs ++ ys) ≡ (all-words p xs && all-words p ys)
 all-words-append p xs ys =
@@ -39,10 +39,8 @@ unfolding lists-below all-below
 all-words-lists p zero f = refl
 all-words-lists p (suc n) f = all-words-append p (lists-below n f) (f n) ∙ ap (λ (t : Bool). t && all-words p (f n)) (all-words-lists p n f)
 
-all-words-take : (p : ℕ → Bool) (n : ℕ) (xs : List ℕ) → n ≤ length xs → all-below n (λ f. p (word xs f)) ≡ all-words p (take n xs)
-all-words-take p n xs l =
-    all-below-ext n (λ f. p (word xs f)) (λ f. p (word (take n xs) f)) (λ f u. ap p (sym (getD-take n xs f 0 u)))
-    ∙ ap (λ (m : ℕ). all-below m (λ f. p (word (take n xs) f))) (sym (length-take-le n xs l))
+all-words-ext : (p q : ℕ → Bool) (xs : List ℕ) → ((x : ℕ) → p x ≡ q x) → all-words p xs ≡ all-words q xs
+all-words-ext p q xs h = all-below-ext (length xs) (λ f. p (word xs f)) (λ f. q (word xs f)) (λ f _. h (word xs f))
 
 all-words-part : (p : ℕ → Bool) (xs : List ℕ) (o n : ℕ) → o + n ≤ length xs → all-words p (part xs o n) ≡ all-below n (λ f. p (word xs (o + f)))
 all-words-part p xs o n l =
@@ -67,11 +65,13 @@ wrong-header ws i b t =
 -- ---- one segment
 
 module _ {ws : List ℕ} {N s i : ℕ} (o : Of ws N s i) where
-  abbrev right-at : ℕ → Bool
-  right-at k = not (taken-at ws s k) || block-right ws (class ws s) (block-of ws s k)
+  -- a segment of a class is not in the pool
+  pub of-used : in-pool ws s ≡ false
+  of-used = ne-eqb (class ws s) 0 (λ z. omega (arith, o .member .class, o .member .low))
 
   -- a wrong header is enough
-  wrong-at : (k : ℕ) → headed ws s k ≡ false → right-at k ≡ false
+  wrong-at : (k : ℕ) → headed ws s k ≡ false → right-at ws s k ≡ false
+  unfolding right-at
   wrong-at k h = go (taken-at ws s k) refl
     where
       go : (t : Bool) → taken-at ws s k ≡ t → (not t || block-right ws (class ws s) (block-of ws s k)) ≡ false
@@ -79,8 +79,8 @@ module _ {ws : List ℕ} {N s i : ℕ} (o : Of ws N s i) where
       go false e = sym (headed-free ws s k e) ∙ h
 
   -- otherwise it depends on the references
-  right-references : (k : ℕ) → k < blocks (class ws s) → headed ws s k ≡ true → all-words (none-or-taken ws) (references-of ws s k) ≡ right-at k
-  unfolding all-below
+  right-references : (k : ℕ) → k < blocks (class ws s) → headed ws s k ≡ true → all-words (none-or-taken ws) (references-of ws s k) ≡ right-at ws s k
+  unfolding all-below right-at
   right-references k l h = go (taken-at ws s k) refl
     where
       b : List ℕ
@@ -98,24 +98,58 @@ module _ {ws : List ℕ} {N s i : ℕ} (o : Of ws N s i) where
   unfolding segment-right
   judged-wrong g e p =
       let found = all-below-finds (blocks i) (headed ws s) (sym (g .headers) ∙ e) in
-      rw p (all-below-fails (blocks (class ws s)) right-at (found .0) (omega (arith, found .1, ap blocks (o .member .class))) (wrong-at (found .0) (found .2)))
+      rw p (all-below-fails (blocks (class ws s)) (right-at ws s) (found .0) (omega (arith, found .1, ap blocks (o .member .class))) (wrong-at (found .0) (found .2)))
 
   pub judged-right : {refs : List ℕ} {right : Bool} {m : ℕ} {row : List ℕ} {r : Bool} → GatheredBelow ws s (blocks i) refs right m → right ≡ true
-      → in-pool ws s ≡ false → TakenRow ws row → r ≡ all-below m (λ f. row-none-or-taken row N (word refs f)) → r ≡ segment-right ws s
+      → in-pool ws s ≡ false → TakenRow ws row → r ≡ all-words (row-none-or-taken row) (take m refs) → r ≡ segment-right ws s
   unfolding segment-right
   judged-right {refs} {right} {m} {row} g e p t tested =
       tested
-      ∙ all-below-ext m (λ f. row-none-or-taken row N (word refs f)) (λ f. none-or-taken ws (word refs f)) (λ f l. row-none-or-taken-is t (sym (o .all)) (word refs f))
-      ∙ all-words-take (none-or-taken ws) m refs (omega (arith, g .room e, g .long))
+      ∙ all-words-ext (row-none-or-taken row) (none-or-taken ws) (take m refs) (row-none-or-taken-is t)
       ∙ ap (all-words (none-or-taken ws)) (g .words e)
       ∙ all-words-lists (none-or-taken ws) (blocks i) (references-of ws s)
       ∙ ap (λ (n : ℕ). all-below n (λ k. all-words (none-or-taken ws) (references-of ws s k))) same
-      ∙ all-below-ext (blocks (class ws s)) (λ k. all-words (none-or-taken ws) (references-of ws s k)) right-at
+      ∙ all-below-ext (blocks (class ws s)) (λ k. all-words (none-or-taken ws) (references-of ws s k)) (right-at ws s)
       (λ k l. right-references k l (all-below-at (blocks i) (headed ws s) (sym (g .headers) ∙ e) k (omega (arith, same))))
-      ∙ ap (λ (u : Bool). u || all-below (blocks (class ws s)) right-at) (sym p)
+      ∙ ap (λ (u : Bool). u || all-below (blocks (class ws s)) (right-at ws s)) (sym p)
     where
       same : blocks i ≡ blocks (class ws s)
       same = ap blocks (o .member .class)
+
+  -- ---- a large block, tested where it stands
+
+  -- a row tells of each block of the segment whether it is taken
+  pub taken-by-row : {row : List ℕ} {t : Bool} (k : ℕ) → TakenRow ws row → k < blocks i → t ≡ row-taken row (2048 * s + k + 1) → t ≡ taken-at ws s k
+  taken-by-row {row} k r l e =
+      let few : k < 2048 = omega (arith, l, blocks-most i (bounds-class i (o .member .low) (o .member .high))) in
+      e ∙ row-taken-is r (2048 * s + k + 1) ∙ is-taken-at ws (2048 * s + k) ∙ ap₂ (taken-at ws) (omega arith) (omega arith)
+
+  pub free-right : (k : ℕ) → taken-at ws s k ≡ false → true ≡ right-at ws s k
+  unfolding right-at
+  free-right k e = rw e
+
+  pub header-wrong : {b : List ℕ} {right : Bool} (k : ℕ) → b ≡ part ws (block-at N s i k) (block-words i) → right ≡ header-right i b → right ≡ false
+      → taken-at ws s k ≡ true → false ≡ right-at ws s k
+  unfolding right-at
+  header-wrong {b} {right} k e h wrong t =
+      let same = block-handed o k e in
+      rw t (sym (wrong-header ws (class ws s) (block-of ws s k) (ap₂ header-right (sym (o .member .class)) (sym same) ∙ sym h ∙ wrong)))
+
+  pub references-right : {b : List ℕ} {right answer : Bool} {row : List ℕ} (k : ℕ) → b ≡ part ws (block-at N s i k) (block-words i) → right ≡ header-right i b
+      → right ≡ true → taken-at ws s k ≡ true → TakenRow ws row → answer ≡ all-words (row-none-or-taken row) (references-in b) → answer ≡ right-at ws s k
+  references-right {b} {right} {answer} {row} k e h right-one t r a =
+      let same = block-handed o k e in
+      let header = ap₂ header-right (sym (o .member .class)) (sym same) ∙ sym h ∙ right-one in
+      a
+      ∙ all-words-ext (row-none-or-taken row) (none-or-taken ws) (part b 1 (r-in b)) (row-none-or-taken-is r)
+      ∙ ap (λ (x : List ℕ). all-words (none-or-taken ws) (part x 1 (r-in x))) same
+      ∙ ap (all-words (none-or-taken ws)) (sym (references-taken ws s k t))
+      ∙ right-references k (taken-inside ws s k t) (headed-taken ws s k t ∙ header)
+
+  pub large-judged : {answer : Bool} → in-pool ws s ≡ false → answer ≡ all-below (blocks i) (right-at ws s) → answer ≡ segment-right ws s
+  unfolding segment-right
+  large-judged p a =
+      a ∙ ap (λ (n : ℕ). all-below n (right-at ws s)) (ap blocks (o .member .class)) ∙ ap (λ (u : Bool). u || all-below (blocks (class ws s)) (right-at ws s)) (sym p)
 
 -- ---- the whole
 
@@ -124,5 +158,5 @@ unfolding segment-right
 judged-pool ws s p = rw p
 
 pub every-segment-right : (ws : List ℕ) → taken-right ws ≡ all-below (segments ws) (segment-right ws)
-unfolding taken-right segment-right
+unfolding taken-right segment-right right-at
 every-segment-right ws = refl

@@ -1,29 +1,31 @@
 -- Laws of the taken row: the words that it is made of, what asking it tells of the arena, and its count of ones.
 -- Assumes nothing.
-use Prim.Native.Nat.{ℕ, _+_, _-_, _*_, _/_, _%_, _^_, _≤_, _<_}
+use Prim.Native.Nat.{ℕ, zero, suc, _+_, _-_, _*_, _/_, _%_, _^_, _≤_, _<_}
 use mathlib.Core.Path.{_≡_, refl, sym, ap, ap₂, _∙_}
-use mathlib.Core.Bool.{Bool, true, false, not, _&&_, _||_, and-comm, and-false, or-true, or-false}
+use mathlib.Core.Bool.{Bool, true, false, not, _&&_, _||_, and-comm, and-false}
+use mathlib.Core.Logic.{_⊎_, inl, inr}
 use mathlib.Core.List.{List}
 use native.Mathlib.Nat.{add-zero}
 use native.Mathlib.Omega.{arith}
 use lib.Dec.{eqb, ltb}
-use lib.ListN.{length, set, length-set}
+use lib.ListN.{length, getD, set, replicate, length-set, length-replicate, getD-replicate, List·getD-eq-default}
+use native.Mathlib.Decide.{decLt}
 use lib.Seq.{getD-set-same, getD-set-other}
-use lib.Bits.{bitAnd, bitOr, or-lt, and-lt}
+use lib.Bits.{bitAnd, bitOr, or-lt, and-lt, or-add-and, and-le-l, and-le-r}
 use lib.Pow.{shr-le}
-use mir.Val.{boolByte}
 use borrow.Author.Count.{below-more}
-use borrow.Author.Tests.{lt-ltb, le-ltb, eq-eqb, ne-eqb, ltb-true, ltb-false, eqb-true, eqb-false}
-use Rattle.model.specs.Below.{count-below}
+use borrow.Author.Tests.{lt-ltb, le-ltb, eq-eqb, ne-eqb, ltb-true, ltb-false}
+use Rattle.model.specs.Below.{count-below, all-below as every}
 use Rattle.model.specs.Word.{word, bit, ones, word-of-bits}
-use Rattle.model.specs.Class.{blocks}
-use Rattle.model.specs.Layout.{arena-length, record-at}
+use Rattle.model.specs.Class.{blocks, words-for}
+use Rattle.model.specs.Layout.{arena-length, record-at, segment-of, index-of}
 use Rattle.model.specs.View.{segments, place-rank, place-index, record-of, class, rank, bit-of}
 use Rattle.model.specs.Standing.{in-pool, is-block, before-place, taken-at, is-taken, none-or-taken, taken-count}
-use Rattle.laws.proofs.Below.{count-below-ext, count-below-add}
+use Rattle.laws.proofs.Below.{all-below-step, count-below-ext, count-below-add}
 use Rattle.laws.proofs.Splice.{length-part}
-use Rattle.laws.proofs.Bits.{bit-zero, bit-low, bit-ones, bit-past, bit-shift, bit-and, bit-or, bit-word-of-bits, word-of-bits-lt, word-of-bits-ext, word-ext}
-use Rattle.taken.specs.Row.{row-bit, TakenRow, row-taken, row-none-or-taken, Limit, row-word, Filled, Fill, taken-word, Segment}
+use Rattle.laws.proofs.Bits.{bit-zero, bit-low, bit-ones, bit-past, bit-pow, bit-shift, bit-and, bit-or, bit-word-of-bits, word-of-bits-lt, word-of-bits-ext, word-ext}
+use Rattle.arena.specs.Rows.{row-bit}
+use Rattle.taken.specs.Row.{asked-bit, TakenRow, row-taken, row-none-or-taken, Limit, row-word, Filled, Blank, Fill, taken-word, Segment}
 
 -- ---- the word of the ones below a limit
 
@@ -102,14 +104,22 @@ record-long ws s e l = length-part ws (record-at s) 68 (omega arith)
 
 -- one word more
 pub segment-step : {rec : List ℕ} {limit blocks : ℕ} {row row' : List ℕ} {at j : ℕ} (o v : ℕ) → Segment rec limit blocks row row' at j
-    → o ≡ at + j → o < 4096 → v ≡ taken-word (word rec (1 + j)) limit blocks j → Segment rec limit blocks row (set row' o v) at (j + 1)
+    → o ≡ at + j → o < 8192 → v ≡ taken-word (word rec (1 + j)) limit blocks j → Segment rec limit blocks row (set row' o v) at (j + 1)
 segment-step {rec} {limit} {blocks} {row} {row'} {at} {j} o v h e l w = record {
   long = length-set row' o v ∙ h .long;
-  before = λ p u. getD-set-other row' o p v 0 (λ q. omega arith) ∙ h .before p u;
+  others = λ p u. getD-set-other row' o p v 0 (apart p u) ∙ h .others p (fewer p u);
   words = below-more (λ (i : ℕ). word (set row' o v) (at + i) ≡ taken-word (word rec (1 + i)) limit blocks i) j
       (λ i u. getD-set-other row' o (at + i) v 0 (λ q. omega arith) ∙ h .words i u)
       (ap (word (set row' o v)) (sym e) ∙ getD-set-same row' o v 0 (omega (arith, h .long)) ∙ w);
 }
+  where
+    apart : (p : ℕ) → (p < at) ⊎ (at + (j + 1) ≤ p) → p ≡ o → ⊥
+    apart p (inl u) q = omega arith
+    apart p (inr u) q = omega arith
+
+    fewer : (p : ℕ) → (p < at) ⊎ (at + (j + 1) ≤ p) → (p < at) ⊎ (at + j ≤ p)
+    fewer p (inl u) = inl u
+    fewer p (inr u) = inr (omega arith)
 
 -- ---- taken, segment by segment
 
@@ -135,13 +145,6 @@ unfolding row-word
 row-word-at ws s j l =
     ap₂ (λ (t i : ℕ). word-of-bits (λ b. taken-at ws t (32 * i + b))) (omega arith) (omega arith)
 
-pub pool-word : (ws : List ℕ) (s w j : ℕ) → in-pool ws s ≡ true → j < 64 → taken-word w 0 0 j ≡ row-word ws (64 * s + j)
-unfolding taken-word
-pool-word ws s w j p l =
-    word-of-bits-ext (λ b. (ltb (32 * j + b) 0 || bit w b) && ltb (32 * j + b) 0) (λ b. taken-at ws s (32 * j + b))
-    (λ b u. ap (λ (t : Bool). (t || bit w b) && t) (le-ltb (32 * j + b) 0 (omega arith)) ∙ and-false (bit w b) ∙ sym (taken-at-pool ws s (32 * j + b) p))
-    ∙ sym (row-word-at ws s j l)
-
 pub member-word : (ws : List ℕ) (s limit j : ℕ) → s < segments ws → in-pool ws s ≡ false → Limit ws s limit → j < 64
     → taken-word (word (record-of ws s) (1 + j)) limit (blocks (class ws s)) j ≡ row-word ws (64 * s + j)
 unfolding taken-word
@@ -164,127 +167,216 @@ member-word ws s limit j there p h l =
     each k b ej eb false e =
         rw e (and-false (ltb k limit || bit w b) ∙ sym (and-false (before-place ws s k || bit-of ws s k)))
 
+-- past a segment's blocks, and in the pool, the words of a row are 0
+pub no-blocks : (ws : List ℕ) (s j : ℕ) → j < 64 → ((b : ℕ) → b < 32 → taken-at ws s (32 * j + b) ≡ false) → 0 ≡ row-word ws (64 * s + j)
+no-blocks ws s j l free =
+    let f : ℕ → Bool = λ b. taken-at ws s (32 * j + b) in
+    word-ext 0 (word-of-bits f) (omega arith) (word-of-bits-lt f) (λ b u. bit-zero b ∙ sym (bit-word-of-bits f b u ∙ free b u))
+    ∙ sym (row-word-at ws s j l)
+
 -- ---- a row that is filled
 
-pub filled-step : {ws row row' rec : List ℕ} {s limit blocks at : ℕ} → Fill ws row s → Segment rec limit blocks row row' at 64 → at ≡ 64 * s
-    → ((j : ℕ) → j < 64 → taken-word (word rec (1 + j)) limit blocks j ≡ row-word ws (64 * s + j)) → Filled ws row' (64 * s + 64)
-filled-step {ws} {row} {row'} {rec} {s} {limit} {blocks} {at} f g e h =
-    record { long = g .long; right = λ o l. go o l (ltb o (64 * s)) refl }
+pub zeros : (n o : ℕ) → word (replicate n 0) o ≡ 0
+zeros n o = go (decLt o n)
   where
-    go : (o : ℕ) → o < 64 * s + 64 → (t : Bool) → ltb o (64 * s) ≡ t → word row' o ≡ row-word ws o
-    go o l true u =
-        let before : o < 64 * s = ltb-true o (64 * s) u in
-        g .before o (omega arith) ∙ f .filled .right o before
+    go : Dec (o < n) → word (replicate n 0) o ≡ 0
+    go (yes l) = getD-replicate n o 0 0 l
+    go (no l) = List·getD-eq-default (replicate n 0) 0 (omega (arith, length-replicate {A = ℕ} n 0))
+
+pub blank-filled : {ws row : List ℕ} → Blank row → Filled ws row 0
+blank-filled b = record { long = b .long; first = b .first; right = λ o l. absurd (omega arith); behind = λ o _. b .behind o }
+
+-- a segment in the pool needs no words
+pub filled-pool : {ws row : List ℕ} {s : ℕ} → Fill ws row s → in-pool ws s ≡ true → Filled ws row (64 * s + 64)
+filled-pool {ws} {row} {s} f p = record {
+  long = f .filled .long;
+  first = f .filled .first;
+  right = λ o l. go o l (ltb o (64 * s)) refl;
+  behind = λ o l. f .filled .behind o (omega arith);
+}
+  where
+    go : (o : ℕ) → o < 64 * s + 64 → (t : Bool) → ltb o (64 * s) ≡ t → word row (1 + o) ≡ row-word ws o
+    go o l true u = f .filled .right o (ltb-true o (64 * s) u)
     go o l false u =
         let past : 64 * s ≤ o = ltb-false o (64 * s) u in
         let j : ℕ = o - 64 * s in
-        let here : at + j ≡ o = omega arith in
         let there : 64 * s + j ≡ o = omega arith in
-        ap (word row') (sym here) ∙ g .words j (omega arith) ∙ h j (omega arith) ∙ ap (row-word ws) there
+        f .filled .behind o past ∙ no-blocks ws s j (omega arith) (λ b _. taken-at-pool ws s (32 * j + b) p) ∙ ap (row-word ws) there
 
--- the block at position x
+-- the words of another, as far as it has blocks
+pub filled-step : {ws row row' rec : List ℕ} {s limit n at : ℕ} → Fill ws row s → Segment rec limit n row row' at (words-for n) → at ≡ 1 + 64 * s
+    → n ≡ blocks (class ws s) → n ≤ 2048
+    → ((j : ℕ) → j < 64 → taken-word (word rec (1 + j)) limit n j ≡ row-word ws (64 * s + j)) → Filled ws row' (64 * s + 64)
+filled-step {ws} {row} {row'} {rec} {s} {limit} {n} {at} f g e same few h = record {
+  long = g .long;
+  first = g .others 0 (inl (omega arith)) ∙ f .filled .first;
+  right = λ o l. go o l (ltb o (64 * s)) refl (ltb (o - 64 * s) (words-for n)) refl;
+  behind = λ o l. g .others (1 + o) (inr (omega arith)) ∙ f .filled .behind o (omega arith);
+}
+  where
+    go : (o : ℕ) → o < 64 * s + 64 → (t : Bool) → ltb o (64 * s) ≡ t → (u : Bool) → ltb (o - 64 * s) (words-for n) ≡ u → word row' (1 + o) ≡ row-word ws o
+    go o l true t u w =
+        let before : o < 64 * s = ltb-true o (64 * s) t in
+        g .others (1 + o) (inl (omega arith)) ∙ f .filled .right o before
+    go o l false t true w =
+        let past : 64 * s ≤ o = ltb-false o (64 * s) t in
+        let used : o - 64 * s < words-for n = ltb-true (o - 64 * s) (words-for n) w in
+        let j : ℕ = o - 64 * s in
+        let here : at + j ≡ 1 + o = omega arith in
+        let there : 64 * s + j ≡ o = omega arith in
+        ap (word row') (sym here) ∙ g .words j used ∙ h j (omega arith) ∙ ap (row-word ws) there
+    go o l false t false w =
+        let past : 64 * s ≤ o = ltb-false o (64 * s) t in
+        let unused : words-for n ≤ o - 64 * s = ltb-false (o - 64 * s) (words-for n) w in
+        let j : ℕ = o - 64 * s in
+        let there : 64 * s + j ≡ o = omega arith in
+        g .others (1 + o) (inr (omega arith)) ∙ f .filled .behind o past
+        ∙ no-blocks ws s j (omega arith) (λ b _. taken-at-inside ws s (32 * j + b) (omega (arith, same))) ∙ ap (row-word ws) there
+
+-- the block at position x, which is its handle less 1
 pub is-taken-at : (ws : List ℕ) (x : ℕ) → is-taken ws (x + 1) ≡ taken-at ws (x / 2048) (x % 2048)
 unfolding is-taken
 is-taken-at ws x = rw (ne-eqb (x + 1) 0 (λ e. omega arith)) (ap₂ (taken-at ws) (omega arith) (omega arith))
 
-pub filled-taken : {ws row : List ℕ} → Filled ws row (64 * segments ws) → TakenRow ws row
-unfolding row-word
-filled-taken {ws} {row} f = record {
-  taken = λ x l.
-      ap (λ (w : ℕ). bit w (x % 32)) (f .right (x / 32) (omega arith))
-      ∙ bit-word-of-bits (λ b. taken-at ws (x / 32 / 64) (32 * (x / 32 % 64) + b)) (x % 32) (omega arith)
-      ∙ ap₂ (taken-at ws) (omega arith) (omega arith)
-      ∙ sym (is-taken-at ws x);
-}
-
--- ---- asking a row
-
-module _ (row : List ℕ) (N h : ℕ) where
-  pub row-taken-none : h ≡ 0 → row-taken row N h ≡ false
-  row-taken-none e = rw (eq-eqb h 0 e)
-
-  pub row-taken-past : 2048 * N ≤ h - 1 → row-taken row N h ≡ false
-  row-taken-past l = rw (le-ltb (h - 1) (2048 * N) l) (and-false (not (eqb h 0)))
-
-  pub row-taken-inside : (h ≡ 0 → ⊥) → h - 1 < 2048 * N → row-taken row N h ≡ row-bit row (h - 1)
-  row-taken-inside f l = rw (ne-eqb h 0 f, lt-ltb (h - 1) (2048 * N) l)
-
--- a handle behind the last segment is not taken
+-- one behind the last segment is not taken
 past-not-taken : (ws : List ℕ) (x : ℕ) → 2048 * segments ws ≤ x → is-taken ws (x + 1) ≡ false
 unfolding taken-at is-block
 past-not-taken ws x l = is-taken-at ws x ∙ rw (le-ltb (x / 2048) (segments ws) (omega arith))
 
--- the row of an arena tells of every handle whether it is that of a taken block
-pub row-taken-is : {ws row : List ℕ} {N : ℕ} → TakenRow ws row → segments ws ≡ N → (h : ℕ) → row-taken row N h ≡ is-taken ws h
-unfolding is-taken
-row-taken-is {ws} {row} {N} t e h = go (eqb h 0) refl (ltb (h - 1) (2048 * N)) refl
+some-handle : (ws : List ℕ) (x : ℕ) → none-or-taken ws (x + 1) ≡ is-taken ws (x + 1)
+some-handle ws x = rw (ne-eqb (x + 1) 0 (λ e. omega arith))
+
+-- every handle below 262,144 asks its own bit, or one that is 0
+module _ {ws row : List ℕ} (few : segments ws ≤ 64) (f : Filled ws row (64 * segments ws)) where
+  asked-inside : (x : ℕ) → x < 2048 * segments ws → asked-bit row (x + 1) ≡ is-taken ws (x + 1)
+  unfolding row-word
+  asked-inside x l =
+      ap₂ (λ (o b : ℕ). bit (word row o) b) (omega arith) (omega arith)
+      ∙ ap (λ (w : ℕ). bit w (x % 32)) (f .right (x / 32) (omega arith))
+      ∙ bit-word-of-bits (λ b. taken-at ws (x / 32 / 64) (32 * (x / 32 % 64) + b)) (x % 32) (omega arith)
+      ∙ ap₂ (taken-at ws) (omega arith) (omega arith)
+      ∙ sym (is-taken-at ws x)
+
+  asked-behind : (x : ℕ) → 2048 * segments ws ≤ x → x < 262112 → asked-bit row (x + 1) ≡ false
+  asked-behind x l u =
+      let here : (x + 1 + 31) / 32 % 8192 ≡ 1 + x / 32 = omega arith in
+      ap (λ (w : ℕ). bit w ((x + 1 + 31) % 32)) (ap (word row) here ∙ f .behind (x / 32) (omega arith)) ∙ bit-zero ((x + 1 + 31) % 32)
+
+  -- the last of them ask word 0, of which only bit 31 is set
+  asked-again : (x : ℕ) → 262112 ≤ x → x < 262143 → asked-bit row (x + 1) ≡ false
+  asked-again x l u =
+      let here : (x + 1 + 31) / 32 % 8192 ≡ 0 = omega arith in
+      let there : ((x + 1 + 31) % 32 ≡ 31 → ⊥) = λ e. omega arith in
+      ap (λ (w : ℕ). bit w ((x + 1 + 31) % 32)) (ap (word row) here ∙ f .first) ∙ bit-pow 31 ((x + 1 + 31) % 32) ∙ ne-eqb ((x + 1 + 31) % 32) 31 there
+
+  asked-none : asked-bit row 0 ≡ true
+  asked-none = ap (λ (w : ℕ). bit w 31) (f .first) ∙ bit-pow 31 31
+
+  pub filled-taken : TakenRow ws row
+  filled-taken = record { few = few; asked = go }
+    where
+      some : (x : ℕ) → x < 262143 → (t : Bool) → ltb x (2048 * segments ws) ≡ t → (u : Bool) → ltb x 262112 ≡ u → asked-bit row (x + 1) ≡ none-or-taken ws (x + 1)
+      some x l true t u w = asked-inside x (ltb-true x (2048 * segments ws) t) ∙ sym (some-handle ws x)
+      some x l false t true w =
+          let past = ltb-false x (2048 * segments ws) t in
+          asked-behind x past (ltb-true x 262112 w) ∙ sym (some-handle ws x ∙ past-not-taken ws x past)
+      some x l false t false w =
+          asked-again x (ltb-false x 262112 w) l ∙ sym (some-handle ws x ∙ past-not-taken ws x (ltb-false x (2048 * segments ws) t))
+
+      go : (h : ℕ) → h < 262144 → asked-bit row h ≡ none-or-taken ws h
+      go zero l = asked-none
+      go (suc x) l =
+          let same : x + 1 ≡ suc x = omega arith in
+          ap (asked-bit row) (sym same) ∙ some x (omega arith) (ltb x (2048 * segments ws)) refl (ltb x 262112) refl ∙ ap (none-or-taken ws) same
+
+-- ---- asking a row
+
+-- the row of an arena tells of every handle whether it is 0 or that of a taken block
+pub row-none-or-taken-is : {ws row : List ℕ} → TakenRow ws row → (h : ℕ) → row-none-or-taken row h ≡ none-or-taken ws h
+row-none-or-taken-is {ws} {row} t h = go (ltb h 262144) refl
   where
-    go : (z : Bool) → eqb h 0 ≡ z → (u : Bool) → ltb (h - 1) (2048 * N) ≡ u → row-taken row N h ≡ is-taken ws h
-    go true z u p = row-taken-none row N h (eqb-true h 0 z) ∙ rw z
-    go false z true p =
-        let some = eqb-false h 0 z in
-        let inside = ltb-true (h - 1) (2048 * N) p in
+    go : (u : Bool) → ltb h 262144 ≡ u → (u && asked-bit row h) ≡ none-or-taken ws h
+    go true e = t .asked h (ltb-true h 262144 e)
+    go false e =
+        let past : 262144 ≤ h = ltb-false h 262144 e in
         let back : h - 1 + 1 ≡ h = omega arith in
-        row-taken-inside row N h some inside ∙ t .taken (h - 1) (omega arith) ∙ ap (is-taken ws) back
-    go false z false p =
-        let some = eqb-false h 0 z in
-        let past = ltb-false (h - 1) (2048 * N) p in
-        let back : h ≡ h - 1 + 1 = omega arith in
-        row-taken-past row N h past ∙ sym (ap (is-taken ws) back ∙ past-not-taken ws (h - 1) (omega arith))
+        sym (ap (none-or-taken ws) (sym back) ∙ some-handle ws (h - 1) ∙ past-not-taken ws (h - 1) (omega (arith, t .few)))
 
-pub row-none-or-taken-is : {ws row : List ℕ} {N : ℕ} → TakenRow ws row → segments ws ≡ N → (h : ℕ) → row-none-or-taken row N h ≡ none-or-taken ws h
-row-none-or-taken-is t e h = ap (λ (u : Bool). eqb h 0 || u) (row-taken-is t e h)
+pub row-taken-is : {ws row : List ℕ} → TakenRow ws row → (h : ℕ) → row-taken row h ≡ is-taken ws h
+unfolding is-taken
+row-taken-is {ws} {row} t h = ap (λ (u : Bool). not (eqb h 0) && u) (row-none-or-taken-is t h) ∙ go (eqb h 0)
+  where
+    go : (z : Bool) → (not z && (z || (not z && taken-at ws (segment-of h) (index-of h)))) ≡ (not z && taken-at ws (segment-of h) (index-of h))
+    go true = refl
+    go false = refl
 
--- its count of ones is the number of taken blocks
-pub row-count : {ws row : List ℕ} {N : ℕ} → TakenRow ws row → segments ws ≡ N → count-below (2048 * N) (row-bit row) ≡ taken-count ws
+-- the bit of the block at position x
+pub row-bit-taken : {ws row : List ℕ} → TakenRow ws row → (x : ℕ) → x < 2048 * segments ws → row-bit row (x + 1) ≡ is-taken ws (x + 1)
+row-bit-taken {ws} {row} t x l =
+    let here : (x + 1 + 31) / 32 ≡ (x + 1 + 31) / 32 % 8192 = omega (arith, t .few) in
+    ap (λ (o : ℕ). bit (word row o) ((x + 1 + 31) % 32)) here ∙ t .asked (x + 1) (omega (arith, t .few)) ∙ some-handle ws x
+
+-- its count of ones, but for that of handle 0, is the number of taken blocks
+pub row-count : {ws row : List ℕ} {N : ℕ} → TakenRow ws row → segments ws ≡ N → count-below (2048 * N) (λ x. row-bit row (x + 1)) ≡ taken-count ws
 unfolding taken-count
 row-count {ws} {row} t e =
-    ap (λ (n : ℕ). count-below (2048 * n) (row-bit row)) (sym e)
-    ∙ count-below-ext (2048 * segments ws) (row-bit row) (λ x. is-taken ws (x + 1)) (t .taken)
+    ap (λ (n : ℕ). count-below (2048 * n) (λ x. row-bit row (x + 1))) (sym e)
+    ∙ count-below-ext (2048 * segments ws) (λ x. row-bit row (x + 1)) (λ x. is-taken ws (x + 1)) (row-bit-taken t)
 
 -- the ones of one word more
-pub count-word : (row : List ℕ) (o : ℕ) → count-below (32 * (o + 1)) (row-bit row) ≡ count-below (32 * o) (row-bit row) + count-below 32 (bit (word row o))
+pub count-word : (row : List ℕ) (o : ℕ)
+    → count-below (32 * (o + 1)) (λ x. row-bit row (x + 1)) ≡ count-below (32 * o) (λ x. row-bit row (x + 1)) + count-below 32 (bit (word row (1 + o)))
 count-word row o =
-    ap (λ (n : ℕ). count-below n (row-bit row)) (omega arith)
-    ∙ count-below-add (32 * o) 32 (row-bit row)
-    ∙ ap (λ (c : ℕ). count-below (32 * o) (row-bit row) + c)
-    (count-below-ext 32 (λ k. row-bit row (32 * o + k)) (bit (word row o))
+    ap (λ (n : ℕ). count-below n (λ x. row-bit row (x + 1))) (omega arith)
+    ∙ count-below-add (32 * o) 32 (λ x. row-bit row (x + 1))
+    ∙ ap (λ (c : ℕ). count-below (32 * o) (λ x. row-bit row (x + 1)) + c)
+    (count-below-ext 32 (λ k. row-bit row (32 * o + k + 1)) (bit (word row (1 + o)))
     (λ k l. ap₂ (λ (p b : ℕ). bit (word row p) b) (omega arith) (omega arith)))
 
--- `let none = (h == 0) as u32; let x = h + none - 1;`: the position that is asked
-module _ (h : ℕ) where
-  pub asked-some : 1 ≤ h + boolByte (eqb h 0)
-  asked-some = go (eqb h 0) refl
-    where
-      go : (t : Bool) → eqb h 0 ≡ t → 1 ≤ h + boolByte t
-      go true e = omega arith
-      go false e = omega (arith, eqb-false h 0 e)
+-- `row[at / 32 % 8192] >> (at % 32)`
+pub asked-is : (row : List ℕ) (h : ℕ) → bit (word row ((h + 31) / 32 % 8192) / 2 ^ ((h + 31) % 32)) 0 ≡ asked-bit row h
+asked-is row h =
+    bit-shift (word row ((h + 31) / 32 % 8192)) ((h + 31) % 32) 0 ∙ ap (bit (word row ((h + 31) / 32 % 8192))) (add-zero ((h + 31) % 32))
 
-  pub asked-fits : h < 2 ^ 32 → h + boolByte (eqb h 0) < 2 ^ 32
-  asked-fits l = go (eqb h 0) refl
-    where
-      go : (t : Bool) → eqb h 0 ≡ t → h + boolByte t < 2 ^ 32
-      go true e = omega (arith, eqb-true h 0 e)
-      go false e = omega arith
+-- ---- asking it of many words
 
-module _ (row : List ℕ) (N h : ℕ) where
-  pub asked-past : 1 ≤ N → 2048 * N ≤ h + boolByte (eqb h 0) - 1 → row-none-or-taken row N h ≡ false
-  asked-past p = go (eqb h 0) refl
-    where
-      go : (t : Bool) → eqb h 0 ≡ t → 2048 * N ≤ h + boolByte t - 1 → (t || row-taken row N h) ≡ false
-      go true e l = absurd (omega (arith, eqb-true h 0 e))
-      go false e l = row-taken-past row N h (omega arith)
+-- a number is below a power of two exactly if it has no bit from there on
+or-below : (a b : ℕ) → ltb (bitOr a b) 262144 ≡ (ltb a 262144 && ltb b 262144)
+or-below a b = go (ltb a 262144) refl (ltb b 262144) refl
+  where
+    go : (s : Bool) → ltb a 262144 ≡ s → (t : Bool) → ltb b 262144 ≡ t → ltb (bitOr a b) 262144 ≡ (s && t)
+    go true s true t = lt-ltb (bitOr a b) 262144 (or-lt 18 a b (ltb-true a 262144 s) (ltb-true b 262144 t))
+    go true s false t = le-ltb (bitOr a b) 262144 (omega (arith, ltb-false b 262144 t, or-add-and a b, and-le-l a b))
+    go false s u t = le-ltb (bitOr a b) 262144 (omega (arith, ltb-false a 262144 s, or-add-and a b, and-le-r a b))
 
-  pub asked-inside : (x : ℕ) → x ≡ h + boolByte (eqb h 0) - 1 → x < 2048 * N
-      → eqb (bitOr (word row (x / 32) / 2 ^ (x % 32)) (boolByte (eqb h 0)) % 2) 1 ≡ row-none-or-taken row N h
-  asked-inside x e l =
-      sym (bit-low (bitOr (word row (x / 32) / 2 ^ (x % 32)) (boolByte (eqb h 0))))
-      ∙ bit-or (word row (x / 32) / 2 ^ (x % 32)) (boolByte (eqb h 0)) 0
-      ∙ ap (λ (t : Bool). t || bit (boolByte (eqb h 0)) 0) (bit-shift (word row (x / 32)) (x % 32) 0 ∙ ap (bit (word row (x / 32))) (add-zero (x % 32)))
-      ∙ go (eqb h 0) refl e
-    where
-      go : (t : Bool) → eqb h 0 ≡ t → x ≡ h + boolByte t - 1 → (row-bit row x || bit (boolByte t) 0) ≡ (t || row-taken row N h)
-      go true z u = or-true (row-bit row x)
-      go false z u =
-          let same : x ≡ h - 1 = omega arith in
-          or-false (row-bit row x) ∙ ap (row-bit row) same ∙ sym (row-taken-inside row N h (eqb-false h 0 z) (omega arith))
+-- the words before p have been asked: `all` has the bits that theirs have in common, and `over` every bit of any of them
+pub record AskedBelow (row words : List ℕ) (p all over : ℕ) : Type 0 where
+  pub so-far : (ltb over 262144 && bit all 0) ≡ every p (λ k. row-none-or-taken row (getD words k 0))
+
+pub asked-no-word : (row words : List ℕ) → AskedBelow row words 0 1 0
+unfolding every
+asked-no-word row words = record { so-far = refl }
+
+pub asked-one-more : {row words : List ℕ} {p all over : ℕ} (w : ℕ) → AskedBelow row words p all over → bit w 0 ≡ asked-bit row (getD words p 0)
+    → AskedBelow row words (p + 1) (bitAnd all w) (bitOr over (getD words p 0))
+asked-one-more {row} {words} {p} {all} {over} w h e = record {
+  so-far =
+      ap₂ _&&_ (or-below over (getD words p 0)) (bit-and all w 0 ∙ ap (λ (t : Bool). bit all 0 && t) e)
+      ∙ exchange (ltb over 262144) (ltb (getD words p 0) 262144) (bit all 0) (asked-bit row (getD words p 0))
+      ∙ ap (λ (t : Bool). t && row-none-or-taken row (getD words p 0)) (h .so-far)
+      ∙ sym (all-below-step p (λ k. row-none-or-taken row (getD words k 0)));
+}
+  where
+    exchange : (a b c d : Bool) → ((a && b) && (c && d)) ≡ ((a && c) && (b && d))
+    exchange true true c d = refl
+    exchange true false true d = refl
+    exchange true false false d = refl
+    exchange false b c d = refl
+
+pub asked-over : {row words : List ℕ} {p all over : ℕ} → AskedBelow row words p all over → 262144 ≤ over
+    → every p (λ k. row-none-or-taken row (getD words k 0)) ≡ false
+asked-over {all = all} {over = over} h l = sym (h .so-far) ∙ ap (λ (t : Bool). t && bit all 0) (le-ltb over 262144 l)
+
+pub asked-all : {row words : List ℕ} {p all over : ℕ} → AskedBelow row words p all over → over < 262144
+    → bit all 0 ≡ every p (λ k. row-none-or-taken row (getD words k 0))
+asked-all {all = all} {over = over} h l = ap (λ (t : Bool). t && bit all 0) (sym (lt-ltb over 262144 l)) ∙ h .so-far

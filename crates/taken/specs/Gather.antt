@@ -7,7 +7,7 @@ use mathlib.Core.List.{List, [], _++_}
 use lib.ListN.{length, take}
 use lib.Dec.{eqb, leb}
 use Rattle.model.specs.Below.{all-below, lists-below}
-use Rattle.model.specs.Word.{part, bit}
+use Rattle.model.specs.Word.{word, part, bit}
 use Rattle.model.specs.Class.{blocks, block-words, class-of}
 use Rattle.model.specs.View.{segments, class, block-of, n-in, r-in}
 use Rattle.model.specs.Standing.{in-pool, taken-at}
@@ -17,6 +17,10 @@ use Rattle.taken.specs.Row.{Classed, Member, TakenRow}
 -- a header of class i: "n whose class is the segment's, r not above n"
 unfoldable pub header-right : ℕ → List ℕ → Bool
 header-right i b = eqb (class-of (n-in b)) i && leb (r-in b) (n-in b)
+
+-- a test of each word of a list
+abbrev pub all-words : (ℕ → Bool) → List ℕ → Bool
+all-words p xs = all-below (length xs) (λ f. p (word xs f))
 
 -- a block's references
 abbrev pub references-in : List ℕ → List ℕ
@@ -29,10 +33,13 @@ headed ws s k = not (taken-at ws s k) || header-right (class ws s) (block-of ws 
 unfoldable pub references-of : List ℕ → ℕ → ℕ → List ℕ
 references-of ws s k = cond (taken-at ws s k) (references-in (block-of ws s k)) []
 
+-- block k of segment s is not taken, or all is right with it
+unfoldable pub right-at : List ℕ → ℕ → ℕ → Bool
+right-at ws s k = not (taken-at ws s k) || block-right ws (class ws s) (block-of ws s k)
+
 -- all is right with the taken blocks of segment s
 unfoldable pub segment-right : List ℕ → ℕ → Bool
-segment-right ws s =
-    in-pool ws s || all-below (blocks (class ws s)) (λ k. not (taken-at ws s k) || block-right ws (class ws s) (block-of ws s k))
+segment-right ws s = in-pool ws s || all-below (blocks (class ws s)) (right-at ws s)
 
 -- ---- what one block adds to the references that are gathered already, the first m words of the row
 
@@ -97,6 +104,16 @@ pub record AtSegment (ws : List ℕ) (N s i : ℕ) (row refs : List ℕ) : Type 
   pub of : Of ws N s i
   pub taken : TakenRow ws row
   pub long : length refs ≡ 4096
+
+-- asked to judge a segment of large blocks, and one of its blocks
+pub record Large (ws : List ℕ) (N s i : ℕ) (row : List ℕ) : Type 0 where
+  pub of : Of ws N s i
+  pub taken : TakenRow ws row
+
+pub record AtLarge (ws : List ℕ) (N s i : ℕ) (row : List ℕ) (k : ℕ) : Type 0 where
+  pub of : Of ws N s i
+  pub taken : TakenRow ws row
+  pub inside : k < blocks i
 
 -- asked to judge any segment, and what that leaves
 pub record Judging (ws : List ℕ) (N s : ℕ) (row refs : List ℕ) : Type 0 where

@@ -1,31 +1,32 @@
--- The taken row. A block's position is its handle less 1: segment x 2,048 + index. Bit x of the row is 1 exactly if the block at position x is
--- taken. So 64 words of the row belong to each segment.
+-- The taken row: a row of 8,192 words (crate arena, Rows) in which the bit of handle h is 1 exactly if h is 0 or the handle of a taken block.
 -- Assumes nothing.
-use Prim.Native.Nat.{ℕ, _+_, _-_, _*_, _/_, _%_, _≤_, _<_}
+use Prim.Native.Nat.{ℕ, _+_, _*_, _/_, _%_, _≤_, _<_}
 use mathlib.Core.Path.{_≡_}
+use mathlib.Core.Logic.{_⊎_}
 use mathlib.Core.Bool.{Bool, true, false, not, _&&_, _||_}
 use mathlib.Core.List.{List}
 use lib.ListN.{length}
 use lib.Dec.{eqb, ltb}
 use Rattle.model.specs.Word.{word, bit, word-of-bits}
-use Rattle.model.specs.Class.{is-class, blocks}
+use Rattle.model.specs.Class.{is-class, blocks, words-for}
 use Rattle.model.specs.Layout.{arena-length}
 use Rattle.model.specs.View.{segments, class}
-use Rattle.model.specs.Standing.{in-pool, before-place, taken-at, is-taken}
+use Rattle.model.specs.Standing.{in-pool, before-place, taken-at, none-or-taken}
 
--- bit x of a row
-abbrev pub row-bit : List ℕ → ℕ → Bool
-row-bit row x = bit (word row (x / 32)) (x % 32)
+-- the bit that is asked for handle h. A handle from 262,113 on has none in the row, and asks one of word 0.
+abbrev pub asked-bit : List ℕ → ℕ → Bool
+asked-bit row h = bit (word row ((h + 31) / 32 % 8192)) ((h + 31) % 32)
 
 pub record TakenRow (ws row : List ℕ) : Type 0 where
-  pub taken : (x : ℕ) → x < 2048 * segments ws → row-bit row x ≡ is-taken ws (x + 1)
+  pub few : segments ws ≤ 64
+  pub asked : (h : ℕ) → h < 262144 → asked-bit row h ≡ none-or-taken ws h
 
--- by a row of N segments: the handle of a taken block, and 0 or such a handle
-abbrev pub row-taken : List ℕ → ℕ → ℕ → Bool
-row-taken row N h = not (eqb h 0) && (ltb (h - 1) (2048 * N) && row-bit row (h - 1))
+-- by a row: 0 or the handle of a taken block, and such a handle
+abbrev pub row-none-or-taken : List ℕ → ℕ → Bool
+row-none-or-taken row h = ltb h 262144 && asked-bit row h
 
-abbrev pub row-none-or-taken : List ℕ → ℕ → ℕ → Bool
-row-none-or-taken row N h = eqb h 0 || row-taken row N h
+abbrev pub row-taken : List ℕ → ℕ → Bool
+row-taken row h = not (eqb h 0) && row-none-or-taken row h
 
 -- ---- what is asked
 
@@ -51,14 +52,26 @@ pub record Member (ws : List ℕ) (s i : ℕ) : Type 0 where
 pub record Limit (ws : List ℕ) (s limit : ℕ) : Type 0 where
   pub before : (k : ℕ) → k < blocks (class ws s) → ltb k limit ≡ before-place ws s k
 
--- word o of the row
+-- the word of a row that has the bits of blocks 32 (o % 64) to 32 (o % 64) + 31 of segment o / 64
 unfoldable pub row-word : List ℕ → ℕ → ℕ
 row-word ws o = word-of-bits (λ b. taken-at ws (o / 64) (32 * (o % 64) + b))
 
--- a row of which the words below `end` are filled
+-- the word that has the bit of handle 0
+abbrev pub first-word : ℕ
+first-word = 2147483648
+
+-- a row of which the words of the first `end` / 64 segments are filled, and the later ones are 0
 pub record Filled (ws row : List ℕ) (end : ℕ) : Type 0 where
-  pub long : length row ≡ 4096
-  pub right : (o : ℕ) → o < end → word row o ≡ row-word ws o
+  pub long : length row ≡ 8192
+  pub first : word row 0 ≡ first-word
+  pub right : (o : ℕ) → o < end → word row (1 + o) ≡ row-word ws o
+  pub behind : (o : ℕ) → end ≤ o → word row (1 + o) ≡ 0
+
+-- a row in which no block is taken
+pub record Blank (row : List ℕ) : Type 0 where
+  pub long : length row ≡ 8192
+  pub first : word row 0 ≡ first-word
+  pub behind : (o : ℕ) → word row (1 + o) ≡ 0
 
 pub record Fill (ws row : List ℕ) (s : ℕ) : Type 0 where
   pub classed : Classed ws
@@ -69,13 +82,15 @@ pub record Fill (ws row : List ℕ) (s : ℕ) : Type 0 where
 unfoldable pub taken-word : ℕ → ℕ → ℕ → ℕ → ℕ
 taken-word w limit blocks j = word-of-bits (λ b. (ltb (32 * j + b) limit || bit w b) && ltb (32 * j + b) blocks)
 
-pub record Words (rec row : List ℕ) (at : ℕ) : Type 0 where
+pub record Words (rec row : List ℕ) (blocks at : ℕ) : Type 0 where
   pub record-long : length rec ≡ 68
-  pub long : length row ≡ 4096
-  pub room : at + 64 ≤ 4096
+  pub long : length row ≡ 8192
+  pub some : 1 ≤ at
+  pub room : at + 64 ≤ 8192
+  pub most : blocks ≤ 2048
 
--- row' is the row with the first `end` of those words from `at` on, and the words before them as they were
+-- row' is the row with the first `end` of those words from `at` on, and the words before and behind them as they were
 pub record Segment (rec : List ℕ) (limit blocks : ℕ) (row row' : List ℕ) (at end : ℕ) : Type 0 where
-  pub long : length row' ≡ 4096
-  pub before : (o : ℕ) → o < at → word row' o ≡ word row o
+  pub long : length row' ≡ 8192
+  pub others : (o : ℕ) → (o < at) ⊎ (at + end ≤ o) → word row' o ≡ word row o
   pub words : (j : ℕ) → j < end → word row' (at + j) ≡ taken-word (word rec (1 + j)) limit blocks j

@@ -29,7 +29,7 @@ pub struct Member {
     pub class: u32,
 }
 
-fn header_right(block: &[u32], class: u32) -> bool
+pub fn header_right(block: &[u32], class: u32) -> bool
     requires { ⌜ 0 < length (now block) ⌝ }
     ensures { λ r. ⌜ r ≡ header-right class (now (block .entry)) ⌝ }
 {
@@ -124,7 +124,7 @@ fn gather_word(
 
 pub fn gather_segment(
     arena: &[u32],
-    row: &[u32; 4096],
+    row: &[u32; 8192],
     of: Member,
     refs: &mut [u32; 4096],
 ) -> Gathered
@@ -135,7 +135,7 @@ pub fn gather_segment(
     let mut count: usize = 0;
     let mut j: u32 = 0;
     while j < words {
-        let w = row[wide(64 * of.s + j)];
+        let w = row[wide(1 + 64 * of.s + j)];
         let g = gather_word(arena, of, j, w, refs, count);
         if !g.right {
             return g;

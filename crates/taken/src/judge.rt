@@ -1,38 +1,90 @@
 // The judge of headers and references.
 //
 // "Every taken block has n whose class is the segment's, r not above n, and each reference 0 or the handle of a
-// taken block." Segment by segment: the references of all its taken blocks are gathered into one row, and that row
-// is tested flat.
+// taken block." Segment by segment: the references of large blocks are tested where they stand; those of a segment of
+// small blocks are gathered into one row, and that row is tested flat.
 ghost use mathlib.Core.Path.{_≡_};
-ghost use Prim.Native.Nat.{_≤_};
+ghost use Prim.Native.Nat.{_<_, _≤_};
+ghost use lib.ListN.{length, take};
 ghost use Rattle.model.specs.Below.{all-below};
-ghost use Rattle.model.specs.Word.{word};
+ghost use Rattle.model.specs.Class.{blocks};
+ghost use Rattle.model.specs.View.{r-in};
 ghost use Rattle.model.specs.Sound.{taken-right};
 ghost use Rattle.taken.specs.Row.{row-none-or-taken, Classed, TakenRow};
-ghost use Rattle.taken.specs.Gather.{Judging, Judged};
-use crate::ask::none_or_taken;
+ghost use Rattle.taken.specs.Gather.{all-words, references-in, right-at, AtSegment, AtLarge, Large, Judging, Judged};
+use crate::ask::all_none_or_taken;
+use crate::ask::is_taken;
 use crate::gather::Member;
 use crate::gather::gather_segment;
-use crate::row::clear;
+use crate::gather::header_right;
+use arena::block_of;
 use arena::class;
 use arena::segments;
+use model::BlockIndex;
+use words::class::blocks;
+use words::fields::header_r;
+use words::slices::wide;
 
-// The first m words are each 0 or the handle of a taken block.
-fn references_right(refs: &[u32; 4096], m: usize, row: &[u32; 4096], n: u32) -> bool
-    requires { ⌜ (m ≤ 4096) × (1 ≤ n) × (n ≤ 64) ⌝ }
-    ensures { λ r. ⌜ r ≡ all-below m (λ f. row-none-or-taken (now (row .entry)) n (word (now (refs .entry)) f)) ⌝ }
+// The references of a block, where they stand.
+fn references_right(row: &[u32; 8192], block: &[u32]) -> bool
+    requires { ⌜ r-in (now block) < length (now block) ⌝ }
+    ensures { λ r. ⌜ r ≡ all-words (row-none-or-taken (now (row .entry))) (references-in (now (block .entry))) ⌝ }
 {
-    let mut f = 0;
-    while f < m {
-        if !none_or_taken(row, n, refs[f]) {
+    let end = 1 + wide(header_r(block[0]));
+    all_none_or_taken(row, &block[1..end])
+}
+
+// A block that is not taken may be anything.
+fn block_right(arena: &[u32], row: &[u32; 8192], of: Member, k: u32) -> bool
+    requires { ⌜ AtLarge (now arena) (of .n) (of .s) (of .class) (now row) k ⌝ }
+    ensures { λ r. ⌜ r ≡ right-at (now (arena .entry)) (of .s) k ⌝ }
+{
+    if !is_taken(row, 2048 * of.s + k + 1) {
+        return true;
+    }
+    let block = block_of(arena, of.n, of.s, of.class, BlockIndex(k));
+    if !header_right(block, of.class) {
+        return false;
+    }
+    references_right(row, block)
+}
+
+fn large_right(arena: &[u32], row: &[u32; 8192], of: Member) -> bool
+    requires { ⌜ Large (now arena) (of .n) (of .s) (of .class) (now row) ⌝ }
+    ensures { λ r. ⌜ r ≡ all-below (blocks (of .class)) (right-at (now (arena .entry)) (of .s)) ⌝ }
+{
+    let end = blocks(of.class);
+    let mut k: u32 = 0;
+    while k < end {
+        if !block_right(arena, row, of, k) {
             return false;
         }
-        f += 1;
+        k += 1;
     }
     true
 }
 
-fn segment_right(arena: &[u32], row: &[u32; 4096], n: u32, s: u32, refs: &mut [u32; 4096]) -> bool
+// The first m words of a row.
+fn flat_right(row: &[u32; 8192], refs: &[u32], m: usize) -> bool
+    requires { ⌜ m ≤ length (now refs) ⌝ }
+    ensures { λ r. ⌜ r ≡ all-words (row-none-or-taken (now (row .entry))) (take m (now (refs .entry))) ⌝ }
+{
+    all_none_or_taken(row, &refs[0..m])
+}
+
+// Of small blocks the references are gathered first, and then tested in one row.
+fn small_right(arena: &[u32], row: &[u32; 8192], of: Member, refs: &mut [u32; 4096]) -> bool
+    requires { ⌜ AtSegment (now arena) (of .n) (of .s) (of .class) (now row) (now refs) ⌝ }
+    ensures { λ r. ⌜ Judged (now (arena .entry)) (of .s) (now (refs .exit)) r ⌝ }
+{
+    let g = gather_segment(arena, row, of, refs);
+    if !g.right {
+        return false;
+    }
+    flat_right(row, refs, g.count)
+}
+
+fn segment_right(arena: &[u32], row: &[u32; 8192], n: u32, s: u32, refs: &mut [u32; 4096]) -> bool
     requires { ⌜ Judging (now arena) n s (now row) (now refs) ⌝ }
     ensures { λ r. ⌜ Judged (now (arena .entry)) s (now (refs .exit)) r ⌝ }
 {
@@ -40,14 +92,19 @@ fn segment_right(arena: &[u32], row: &[u32; 4096], n: u32, s: u32, refs: &mut [u
     if class == 0 {
         return true;
     }
-    let g = gather_segment(arena, row, Member { n, s, class }, refs);
-    if !g.right {
-        return false;
+    if 8 <= class {
+        return large_right(arena, row, Member { n, s, class });
     }
-    references_right(refs, g.count, row, n)
+    small_right(arena, row, Member { n, s, class }, refs)
 }
 
-fn segments_right(arena: &[u32], row: &[u32; 4096], refs: &mut [u32; 4096]) -> bool
+fn clear(refs: &mut [u32; 4096])
+    ensures { λ _. ⌜ length (now (refs .exit)) ≡ 4096 ⌝ }
+{
+    *refs = [0; 4096];
+}
+
+fn segments_right(arena: &[u32], row: &[u32; 8192], refs: &mut [u32; 4096]) -> bool
     requires { ⌜ Classed (now arena) ⌝ }
     requires { ⌜ TakenRow (now arena) (now row) ⌝ }
     ensures { λ r. ⌜ r ≡ taken-right (now (arena .entry)) ⌝ }
@@ -65,7 +122,7 @@ fn segments_right(arena: &[u32], row: &[u32; 4096], refs: &mut [u32; 4096]) -> b
 }
 
 // Of an arena with its taken row.
-pub fn taken_right(arena: &[u32], row: &[u32; 4096]) -> bool
+pub fn taken_right(arena: &[u32], row: &[u32; 8192]) -> bool
     requires { ⌜ Classed (now arena) ⌝ }
     requires { ⌜ TakenRow (now arena) (now row) ⌝ }
     ensures { λ r. ⌜ r ≡ taken-right (now (arena .entry)) ⌝ }

@@ -5,10 +5,10 @@
 // limit, or its level-0 word, and of that the bits below its number of blocks: padding is no block.
 ghost use mathlib.Core.Path.{_≡_};
 ghost use Prim.Native.Nat.{_+_, _*_, _<_};
-ghost use lib.ListN.{length};
 ghost use lib.Dec.{ltb};
 ghost use Rattle.model.specs.Word.{word-of-bits};
-ghost use Rattle.taken.specs.Row.{TakenRow, Classed, Member, Limit, Filled, Fill, taken-word, Words, Segment};
+ghost use Rattle.model.specs.Class.{words-for};
+ghost use Rattle.taken.specs.Row.{TakenRow, Classed, Member, Limit, Filled, Blank, Fill, taken-word, Words, Segment};
 use arena::class;
 use arena::place_of;
 use arena::rank;
@@ -60,13 +60,14 @@ fn limit_of(arena: &[u32], s: u32, class: u32) -> u32
     0
 }
 
-// The 64 words of a segment with such a record.
-fn fill_words(rec: &[u32], limit: u32, blocks: u32, row: &mut [u32; 4096], at: usize)
-    requires { ⌜ Words (now rec) (now row) at ⌝ }
-    ensures { λ _. ⌜ Segment (now (rec .entry)) limit blocks (now (row .entry)) (now (row .exit)) at 64 ⌝ }
+// The words of a segment with such a record and so many blocks.
+fn fill_words(rec: &[u32], limit: u32, blocks: u32, row: &mut [u32; 8192], at: usize)
+    requires { ⌜ Words (now rec) (now row) blocks at ⌝ }
+    ensures { λ _. ⌜ Segment (now (rec .entry)) limit blocks (now (row .entry)) (now (row .exit)) at (words-for blocks) ⌝ }
 {
+    let words = (blocks + 31) / 32;
     let mut j: u32 = 0;
-    while j < 64 {
+    while j < words {
         let o = wide(j);
         row[at + o] = taken_word(rec[1 + o], limit, blocks, j);
         j += 1;
@@ -74,31 +75,32 @@ fn fill_words(rec: &[u32], limit: u32, blocks: u32, row: &mut [u32; 4096], at: u
 }
 
 // A segment in the pool has no blocks.
-fn fill_segment(arena: &[u32], s: u32, row: &mut [u32; 4096])
+fn fill_segment(arena: &[u32], s: u32, row: &mut [u32; 8192])
     requires { ⌜ Fill (now arena) (now row) s ⌝ }
     ensures { λ _. ⌜ Filled (now (arena .entry)) (now (row .exit)) (64 * s + 64) ⌝ }
 {
     let class = class(arena, s);
-    let rec = record_of(arena, s);
-    let at = 64 * wide(s);
     if class == 0 {
-        fill_words(rec, 0, 0, row, at);
-    } else {
-        fill_words(rec, limit_of(arena, s, class), blocks(class), row, at);
+        return;
     }
+    let rec = record_of(arena, s);
+    let at = 1 + 64 * wide(s);
+    fill_words(rec, limit_of(arena, s, class), blocks(class), row, at);
 }
 
-pub fn clear(row: &mut [u32; 4096])
-    ensures { λ _. ⌜ length (now (row .exit)) ≡ 4096 ⌝ }
+// A row in which no block is taken, but handle 0 has its bit.
+fn blank(row: &mut [u32; 8192])
+    ensures { λ _. ⌜ Blank (now (row .exit)) ⌝ }
 {
-    *row = [0; 4096];
+    *row = [0; 8192];
+    row[0] = 0x8000_0000;
 }
 
-pub fn fill_row(arena: &[u32], row: &mut [u32; 4096])
+pub fn fill_row(arena: &[u32], row: &mut [u32; 8192])
     requires { ⌜ Classed (now arena) ⌝ }
     ensures { λ _. ⌜ TakenRow (now (arena .entry)) (now (row .exit)) ⌝ }
 {
-    clear(row);
+    blank(row);
     let n = segments(arena);
     let mut s: u32 = 0;
     while s < n {

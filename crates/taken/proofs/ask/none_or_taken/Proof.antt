@@ -1,63 +1,27 @@
--- `taken::ask::none_or_taken` meets its contract: 0 asks position 0 and sets the answer's bit, and any other handle asks its own position.
--- Assumes nothing.
-use Prim.Native.Nat.{ℕ, _+_, _-_, _/_, _%_, _^_}
-use native.Mathlib.Omega.{arith}
-use mathlib.Core.Path.{refl, sym, ap, _∙_}
-use lib.Dec.{eqb}
-use lib.Bits.{bitOr}
-use mir.Val.{boolByte}
+-- `taken::ask::none_or_taken` meets its contract. Assumes nothing.
+use mathlib.Core.Path.{sym, ap, _∙_}
+use mathlib.Core.Bool.{Bool, _&&_}
 use borrow.Author.Needs.{needs}
-use Rattle.model.specs.Word.{word}
-use Rattle.taken.proofs.RowLaws.{asked-some, asked-fits, asked-past, asked-inside}
+use borrow.Author.Tests.{lt-ltb, le-ltb}
+use native.Mathlib.Omega.{arith}
+use Rattle.laws.proofs.Bits.{bit-low}
+use Rattle.taken.specs.Row.{asked-bit}
 use Rattle.taken.proofs.ask.none_or_taken.Statement.{statement}
 use Rattle.taken.proofs.ask.none_or_taken.Tie as tie
 
-cast-none : tie.Need-cast-none
-cast-none c = search needs
-
-add-at : tie.Need-add-at
-add-at c = omega (arith, asked-fits (c .args .h) (search needs))
-
-sub-at : tie.Need-sub-at
-sub-at c = asked-some (c .args .h)
-
-mul-if1 : tie.Need-mul-if1
-mul-if1 c = search needs
-
 returns : tie.Need-returns
-returns c = let a = c .before .args in sym (asked-past (a .row .now) (a .n) (a .h) (search needs) (c .if1 .taken))
+returns c =
+    let a = c .before .args in
+    ap (λ (t : Bool). t && asked-bit (a .row .now) (a .h)) (sym (le-ltb (a .h) 262144 (c .if1 .taken)))
 
-wide-requires : tie.Need-wide-requires
-wide-requires c κs = search needs
-
-mul-result : tie.Need-mul-result
-mul-result c = search needs
-
-element-copy-out-result : tie.Need-element-copy-out-result
-element-copy-out-result c = search needs
-
-shr-result : tie.Need-shr-result
-shr-result c = search needs
+asked-requires : tie.Need-asked-requires
+asked-requires c κs = search needs
 
 returns-2 : tie.Need-returns-2
 returns-2 c =
-    let a = c .before .before .before .args in
-    let none : ℕ = boolByte (eqb (a .h) 0) in
-    let x : ℕ = a .h + none - 1 in
-    ap (λ (o : ℕ). eqb (bitOr (word (a .row .now) o / 2 ^ (x % 32)) none % 2) 1) (c .before .wide .ensures)
-    ∙ asked-inside (a .row .now) (a .n) (a .h) x refl (c .before .before .if1 .left)
+    let a = c .before .before .args in
+    sym (bit-low (c .asked .result)) ∙ c .asked .ensures
+    ∙ ap (λ (t : Bool). t && asked-bit (a .row .now) (a .h)) (sym (lt-ltb (a .h) 262144 (omega arith)))
 
 pub none-or-taken-spec : {M : Type 1} → statement M
-none-or-taken-spec =
-    tie.close
-    (tie.spec
-    cast-none
-    add-at
-    sub-at
-    mul-if1
-    returns
-    wide-requires
-    mul-result
-    element-copy-out-result
-    shr-result
-    returns-2)
+none-or-taken-spec = tie.close (tie.spec returns asked-requires returns-2)

@@ -43,6 +43,9 @@ mul-wide c = search needs
 add-wide : tie.Need-add-wide Inv-loop μ-loop
 add-wide c = search needs
 
+add-wide-2 : tie.Need-add-wide-2 Inv-loop μ-loop
+add-wide-2 c = search needs
+
 wide-requires : tie.Need-wide-requires Inv-loop μ-loop
 wide-requires c κs = search needs
 
@@ -106,6 +109,7 @@ gather-segment-spec =
     loop-holds
     mul-wide
     add-wide
+    add-wide-2
     wide-requires
     mul-w
     element-copy-out-w

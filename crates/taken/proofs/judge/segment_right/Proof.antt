@@ -4,12 +4,12 @@ use native.Mathlib.Omega.{arith}
 use mathlib.Core.Path.{_≡_, sym, _∙_}
 use mathlib.Core.Bool.{false}
 use borrow.Author.Needs.{needs}
-use borrow.Author.Tests.{eq-eqb, ne-eqb, not-true, not-false}
+use borrow.Author.Tests.{eq-eqb, ne-eqb}
 use Rattle.model.specs.View.{class}
 use Rattle.model.specs.Standing.{in-pool}
 use Rattle.words.proofs.ClassLaws.{class-bounds}
 use Rattle.taken.specs.Gather.{Of}
-use Rattle.taken.proofs.JudgeLaws.{judged-pool, judged-wrong, judged-right}
+use Rattle.taken.proofs.JudgeLaws.{judged-pool, large-judged}
 use Rattle.taken.proofs.judge.segment_right.Statement.{statement}
 use Rattle.taken.proofs.judge.segment_right.Tie as tie
 
@@ -48,32 +48,23 @@ returns c =
       judged = sym (judged-pool (a .arena .now) (a .s) (eq-eqb _ 0 (sym (c .before .class .ensures) ∙ c .if1 .taken)));
     }
 
-gather-segment-requires : tie.Need-gather-segment-requires
-gather-segment-requires c κs =
+large-right-requires : tie.Need-large-right-requires
+large-right-requires c κs =
     let p = c .before .before .before .before .pre in
-    record { of = of (c .before); taken = p .taken; long = p .long }
+    record { of = of (c .before); taken = p .taken }
 
 returns-2 : tie.Need-returns-2
 returns-2 c =
-    let g = c .before .before .gather-segment .ensures in
-    let else = c .before .before .before .before in
-    record { long = g .long; judged = sym (judged-wrong (of else) g (not-true _ (c .if2 .taken)) (used else)) }
+    let p = c .before .before .before .before .before .pre in
+    record { long = p .long; judged = large-judged (of (c .before .before)) (used (c .before .before)) (c .large-right .ensures) }
 
-references-right-requires : tie.Need-references-right-requires
-references-right-requires c κs =
-    let p = c .before .before .before .before .before .before .before .before .pre in
-    let room = c .before .before .before .gather-segment .ensures .room (not-false _ (c .before .if2 .left)) in
-    (room, omega (arith, p .classed .some, p .all), omega (arith, p .classed .few, p .all))
+small-right-requires : tie.Need-small-right-requires
+small-right-requires c κs =
+    let p = c .before .before .before .before .before .pre in
+    record { of = of (c .before .before); taken = p .taken; long = p .long }
 
 returns-3 : tie.Need-returns-3
-returns-3 c =
-    let g = c .before .before .before .before .gather-segment .ensures in
-    let else = c .before .before .before .before .before .before in
-    let p = else .before .before .before .pre in
-    record {
-      long = g .long;
-      judged = judged-right (of else) g (not-false _ (c .before .before .if2 .left)) (used else) (p .taken) (c .references-right .ensures);
-    }
+returns-3 c = c .small-right .ensures
 
 pub segment-right-spec : {M : Type 1} → statement M
 segment-right-spec =
@@ -81,7 +72,7 @@ segment-right-spec =
     (tie.spec
     class-requires
     returns
-    gather-segment-requires
+    large-right-requires
     returns-2
-    references-right-requires
+    small-right-requires
     returns-3)

@@ -6,7 +6,7 @@ use mathlib.Core.Path.{_≡_}
 use borrow.Author.Needs.{needs}
 use Rattle.model.specs.View.{segments}
 use Rattle.taken.specs.Row.{Filled}
-use Rattle.taken.proofs.RowLaws.{filled-taken}
+use Rattle.taken.proofs.RowLaws.{blank-filled, filled-taken}
 use Rattle.taken.proofs.row.fill_row.Statement.{statement}
 use Rattle.taken.proofs.row.fill_row.Tie as tie
 
@@ -16,14 +16,14 @@ Inv-loop arena row₀ n s₀ row s = (n ≡ segments arena) × (s ≤ n) × Fill
 abbrev μ-loop : tie.MeasureT-loop
 μ-loop arena row₀ n s₀ row s = n - s
 
-clear-requires : tie.Need-clear-requires Inv-loop μ-loop
-clear-requires c κs = search needs
+blank-requires : tie.Need-blank-requires Inv-loop μ-loop
+blank-requires c κs = search needs
 
 segments-requires : tie.Need-segments-requires Inv-loop μ-loop
 segments-requires c κs = search needs
 
 loop-holds : tie.Need-loop-holds Inv-loop μ-loop
-loop-holds c = search needs
+loop-holds c = (c .segments .ensures, omega arith, blank-filled (c .before .blank .ensures))
 
 fill-segment-requires : tie.Need-fill-segment-requires Inv-loop μ-loop
 fill-segment-requires c κs = search needs
@@ -43,7 +43,7 @@ loop-again c =
 returns : tie.Need-returns Inv-loop μ-loop
 returns c =
     let all : 64 * c .before .loop .s ≡ 64 * segments (c .before .before .before .before .before .before .args .arena .now) = omega arith in
-    filled-taken (rw all at (c .before .loop .inv .2))
+    filled-taken (c .before .before .before .before .before .before .pre .few) (rw all at (c .before .loop .inv .2))
 
 pub fill-row-spec : {M : Type 1} → statement M
 fill-row-spec =
@@ -51,7 +51,7 @@ fill-row-spec =
     (tie.spec
     Inv-loop
     μ-loop
-    clear-requires
+    blank-requires
     segments-requires
     loop-holds
     fill-segment-requires

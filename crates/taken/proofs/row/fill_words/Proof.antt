@@ -5,16 +5,20 @@ use native.Mathlib.Omega.{arith}
 use mathlib.Core.Path.{_≡_, ap, _∙_}
 use borrow.Author.Needs.{needs}
 use Rattle.model.specs.Word.{word}
+use Rattle.model.specs.Class.{words-for}
 use Rattle.taken.specs.Row.{taken-word, Segment}
 use Rattle.taken.proofs.RowLaws.{segment-step}
 use Rattle.taken.proofs.row.fill_words.Statement.{statement}
 use Rattle.taken.proofs.row.fill_words.Tie as tie
 
 abbrev Inv-loop : tie.InvT-loop
-Inv-loop rec limit blocks row₀ at j₀ row j = (j ≤ 64) × Segment rec limit blocks row₀ row at j
+Inv-loop rec limit blocks row₀ at words j₀ row j = (words ≡ words-for blocks) × (j ≤ words) × Segment rec limit blocks row₀ row at j
 
 abbrev μ-loop : tie.MeasureT-loop
-μ-loop rec limit blocks row₀ at j₀ row j = 64 - j
+μ-loop rec limit blocks row₀ at words j₀ row j = words - j
+
+add-words : tie.Need-add-words Inv-loop μ-loop
+add-words c = search needs
 
 loop-holds : tie.Need-loop-holds Inv-loop μ-loop
 loop-holds c = search needs
@@ -54,14 +58,15 @@ loop-again c =
     let a = c .before .before .before .before .before .before .args in
     let same = c .before .before .wide .ensures in (
       search needs,
-      segment-step _ _ (c .before .before .before .before .loop .inv .1) (ap (λ (x : ℕ). a .at + x) same) (search needs)
+      search needs,
+      segment-step _ _ (c .before .before .before .before .loop .inv .2) (ap (λ (x : ℕ). a .at + x) same) (search needs)
           (c .taken-word .ensures ∙ ap (λ (x : ℕ). taken-word (word (a .rec .now) (1 + x)) (a .limit) (a .blocks) (c .before .before .before .before .loop .j)) same),
     )
 
 returns : tie.Need-returns Inv-loop μ-loop
 returns c =
-    let end : c .before .loop .j ≡ 64 = omega arith in
-    rw end at (c .before .loop .inv .1)
+    let end : c .before .loop .j ≡ words-for (c .before .before .before .args .blocks) = omega arith in
+    rw end at (c .before .loop .inv .2)
 
 pub fill-words-spec : {M : Type 1} → statement M
 fill-words-spec =
@@ -69,6 +74,7 @@ fill-words-spec =
     (tie.spec
     Inv-loop
     μ-loop
+    add-words
     loop-holds
     wide-requires
     add-taken-word

@@ -1,0 +1,23 @@
+-- `taken::row::blank` meets its contract. Assumes nothing.
+use Prim.Native.Nat.{ℕ, _+_}
+use native.Mathlib.Omega.{arith}
+use mathlib.Core.Path.{_∙_}
+use lib.ListN.{replicate}
+use lib.Seq.{getD-set-other}
+use borrow.Author.Needs.{needs}
+use Rattle.taken.proofs.RowLaws.{zeros}
+use Rattle.taken.proofs.row.blank.Statement.{statement}
+use Rattle.taken.proofs.row.blank.Tie as tie
+
+element-write-row : tie.Need-element-write-row
+element-write-row c = search needs
+
+returns : tie.Need-returns
+returns c = record {
+  long = search needs;
+  first = search needs;
+  behind = λ o. getD-set-other (replicate 8192 0) 0 (1 + o) 2147483648 0 (λ e. omega arith) ∙ zeros 8192 (1 + o);
+}
+
+pub blank-spec : {M : Type 1} → statement M
+blank-spec = tie.close (tie.spec element-write-row returns)
