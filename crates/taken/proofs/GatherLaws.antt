@@ -1,32 +1,55 @@
 -- Laws of gathering: the references of a segment's taken blocks end to end, block by block, by the set bits of a word, and word by word.
 -- Assumes nothing.
 use Prim.Native.Nat.{ℕ, zero, suc, _+_, _-_, _*_, _^_, _≤_, _<_}
-use mathlib.Core.Path.{_≡_, refl, sym, ap, ap₂, _∙_}
-use mathlib.Core.Bool.{Bool, true, false, not, _&&_, and-true, and-false, and-eq-true-iff, false≢true}
+use mathlib.Core.Path.{_≡_, refl, sym, ap, ap₂, subst, _∙_}
+use mathlib.Core.Bool.{Bool, true, false, not, _&&_, _||_, and-true, and-false, and-eq-true-iff, false≢true}
 use mathlib.Core.List.{List, [], _∷_, _++_, append-nil, append-assoc}
-use native.Mathlib.Nat.{add-zero, add-suc, mul-suc, mul-le-mul-right}
+use native.Mathlib.Nat.{add-zero, mul-add, mul-le-mul-left, mul-le-mul-right}
 use native.Mathlib.Numerals.{add-one}
 use native.Mathlib.Omega.{arith}
 use lib.Dec.{eqb, leb, ltb}
 use lib.Bits.{bitAnd, and-le-r}
 use lib.Count.{trailingZeros, trailing-le, trailing-of-zero}
-use lib.ListN.{length, take, drop, set, length-append, length-set, length-drop, length-take}
-use lib.Seq.{length-take-le, take-take, take-append-add, take-suc, take-suc-set, getD-drop}
-use borrow.Author.Tests.{ltb-true, ltb-false, eqb-true, eqb-false, ne-eqb, leb-true}
-use Rattle.model.specs.Below.{all-below, lists-below}
+use lib.ListN.{length, take, drop, set, length-append, length-set, length-drop, List·getD-append}
+use lib.Seq.{length-take-le, getD-take, take-take, take-append-add, take-suc, take-suc-set, getD-drop, getD-append-add}
+use borrow.Author.Tests.{le-ltb, ltb-true, ltb-false, eqb-true, eqb-false, ne-eqb, leb-true}
+use Rattle.model.specs.Below.{all-below}
 use Rattle.model.specs.Word.{word, part, bit}
 use Rattle.model.specs.Class.{is-class, blocks, block-words, words-for, class-of}
 use Rattle.model.specs.Layout.{block-at}
 use Rattle.model.specs.View.{segments, class, block-offset, block-of, n-in, r-in}
 use Rattle.model.specs.Standing.{taken-at}
-use Rattle.laws.proofs.Below.{all-below-intro, all-below-step, all-below-add, all-below-split, first-is}
+use Rattle.laws.proofs.Below.{all-below-ext, all-below-intro, all-below-step, all-below-add, all-below-split, first-is}
 use Rattle.laws.proofs.Bits.{bit-zero, bit-and-pred, trailing-first, word-ext}
-use Rattle.laws.proofs.Splice.{length-part}
-use Rattle.words.proofs.ClassLaws.{bounds-class, class-room}
+use Rattle.laws.proofs.Splice.{length-part, word-part}
+use Rattle.words.proofs.ClassLaws.{class-rule, bounds-class, class-room}
 use Rattle.words.proofs.HandleLaws.{block-inside, block-in-arena}
 use Rattle.taken.specs.Row.{TakenRow}
-use Rattle.taken.specs.Gather.{header-right, references-in, headed, references-of, Copied, Added, GatheredBelow, Of, AtWord}
+use Rattle.taken.specs.Gather.{all-words, header-word-right, header-right, references-in, headed, references-of, Copied, Added, GatheredBelow, Of, AtWord}
 use Rattle.taken.proofs.RowLaws.{taken-at-inside, is-taken-at, row-bit-taken}
+
+-- ---- a test of each word of a list
+
+pub all-words-append : (p : ℕ → Bool) (xs ys : List ℕ) → all-words p (xs ++ ys) ≡ (all-words p xs && all-words p ys)
+all-words-append p xs ys =
+    ap (λ (n : ℕ). all-below n (λ f. p (word (xs ++ ys) f))) (length-append xs ys)
+    ∙ all-below-add (length xs) (length ys) (λ f. p (word (xs ++ ys) f))
+    ∙ ap₂ _&&_
+    (all-below-ext (length xs) (λ f. p (word (xs ++ ys) f)) (λ f. p (word xs f)) (λ f l. ap p (List·getD-append xs ys 0 f l)))
+    (all-below-ext (length ys) (λ f. p (word (xs ++ ys) (length xs + f))) (λ f. p (word ys f)) (λ f l. ap p (getD-append-add xs ys f 0)))
+
+pub all-words-take : (p : ℕ → Bool) (n : ℕ) (xs : List ℕ) → n ≤ length xs → all-words p (take n xs) ≡ all-below n (λ f. p (word xs f))
+all-words-take p n xs l =
+    ap (λ (m : ℕ). all-below m (λ f. p (word (take n xs) f))) (length-take-le n xs l)
+    ∙ all-below-ext n (λ f. p (word (take n xs) f)) (λ f. p (word xs f)) (λ f u. ap p (getD-take n xs f 0 u))
+
+pub all-words-ext : (p q : ℕ → Bool) (xs : List ℕ) → ((x : ℕ) → p x ≡ q x) → all-words p xs ≡ all-words q xs
+all-words-ext p q xs h = all-below-ext (length xs) (λ f. p (word xs f)) (λ f. q (word xs f)) (λ f _. h (word xs f))
+
+pub all-words-part : (p : ℕ → Bool) (xs : List ℕ) (o n : ℕ) → o + n ≤ length xs → all-words p (part xs o n) ≡ all-below n (λ f. p (word xs (o + f)))
+all-words-part p xs o n l =
+    ap (λ (m : ℕ). all-below m (λ f. p (word (part xs o n) f))) (length-part xs o n l)
+    ∙ all-below-ext n (λ f. p (word (part xs o n) f)) (λ f. p (word xs (o + f))) (λ f u. ap p (word-part xs o n f u))
 
 -- ---- copying one reference more
 
@@ -68,22 +91,12 @@ copied-less {b} {refs} {refs'} {w} {m} r c l u = record {
 
 -- a right header leaves room for itself: r is less than the block's words
 pub header-room : (i : ℕ) (b : List ℕ) → header-right i b ≡ true → r-in b < block-words i
-unfolding header-right
+unfolding header-word-right
 header-room i b t =
     let both = and-eq-true-iff (eqb (class-of (n-in b)) i) (leb (r-in b) (n-in b)) .0 t in
     omega (arith, class-room (n-in b) i (eqb-true (class-of (n-in b)) i (both .0)), leb-true (r-in b) (n-in b) (both .1))
 
 -- ---- blocks that are not taken add nothing
-
-lists-step : (n : ℕ) (f : ℕ → List ℕ) → lists-below (n + 1) f ≡ lists-below n f ++ f n
-unfolding lists-below
-lists-step n f = rw add-one
-
-lists-skip : (a n : ℕ) (f : ℕ → List ℕ) → ((k : ℕ) → k < n → f (a + k) ≡ []) → lists-below (a + n) f ≡ lists-below a f
-unfolding lists-below
-lists-skip a zero f h = rw add-zero
-lists-skip a (suc n) f h =
-    rw (add-suc, h n (omega arith), append-nil) (lists-skip a n f (λ k l. h k (omega arith)))
 
 all-skip : (a n : ℕ) (p : ℕ → Bool) → ((k : ℕ) → k < n → p (a + k) ≡ true) → all-below (a + n) p ≡ all-below a p
 all-skip a n p h = all-below-add a n p ∙ rw (all-below-intro n (λ k. p (a + k)) h) (and-true (all-below a p))
@@ -114,51 +127,19 @@ module _ (ws : List ℕ) (s : ℕ) where
         ap (λ (n : ℕ). all-below n (headed ws s)) whole
         ∙ all-skip a (b - a) (headed ws s) (λ k u. headed-free (a + k) (free (a + k) (omega arith) (omega arith)))
 
-    skip-references : lists-below b (references-of ws s) ≡ lists-below a (references-of ws s)
-    skip-references =
-        ap (λ (n : ℕ). lists-below n (references-of ws s)) whole
-        ∙ lists-skip a (b - a) (references-of ws s) (λ k u. references-free (a + k) (free (a + k) (omega arith) (omega arith)))
-
-  -- how many references the blocks below `end` have
-  few-references : (end : ℕ) → all-below end (headed ws s) ≡ true → length (lists-below end (references-of ws s)) ≤ (block-words (class ws s) - 1) * end
-  unfolding all-below lists-below
-  few-references zero t = omega arith
-  few-references (suc k) t =
-      let both = and-eq-true-iff (all-below k (headed ws s)) (headed ws s k) .0 t in
-      omega (
-        arith,
-        length-append (lists-below k (references-of ws s)) (references-of ws s k),
-        mul-suc (block-words (class ws s) - 1) k,
-        few-references k (both .0),
-        one (taken-at ws s k) refl (both .1),
-      )
-    where
-      one : (t : Bool) → taken-at ws s k ≡ t → headed ws s k ≡ true → length (references-of ws s k) ≤ block-words (class ws s) - 1
-      one true e h =
-          omega (
-            arith,
-            ap length (references-taken k e),
-            length-take (r-in (block-of ws s k)) (drop 1 (block-of ws s k)),
-            header-room (class ws s) (block-of ws s k) (sym (headed-taken k e) ∙ h),
-          )
-      one false e h = omega (arith, ap length (references-free k e))
+    skip-tests : (p : ℕ → Bool) → all-below b (λ k. all-words p (references-of ws s k)) ≡ all-below a (λ k. all-words p (references-of ws s k))
+    unfolding all-below
+    skip-tests p =
+        ap (λ (n : ℕ). all-below n (λ k. all-words p (references-of ws s k))) whole
+        ∙ all-skip a (b - a) (λ k. all-words p (references-of ws s k))
+        (λ k u. ap (all-words p) (references-free (a + k) (free (a + k) (omega arith) (omega arith))))
 
 -- ---- from block to block
 
 -- nothing is gathered yet
 pub gathered-none : (ws : List ℕ) (s : ℕ) (refs : List ℕ) → length refs ≡ 4096 → GatheredBelow ws s 0 refs true 0
-unfolding all-below lists-below
-gathered-none ws s refs e = record { long = e; headers = refl; room = λ _. omega arith; words = λ _. refl }
-
--- how many references are gathered
-pub gathered-few : {ws : List ℕ} {s k : ℕ} {refs : List ℕ} {m : ℕ} → GatheredBelow ws s k refs true m → m ≤ (block-words (class ws s) - 1) * k
-gathered-few {ws} {s} {k} {refs} {m} g =
-    omega (
-      arith,
-      few-references ws s k (sym (g .headers)),
-      ap length (g .words refl),
-      length-take-le m refs (omega (arith, g .room refl, g .long)),
-    )
+unfolding all-below
+gathered-none ws s refs e = record { long = e; headers = refl; room = λ _. omega arith; few = λ _. omega arith; tests = λ _ p none. refl }
 
 -- so there is room for those of one block more
 pub gathered-room : {ws : List ℕ} {s k : ℕ} {refs : List ℕ} {m : ℕ} → GatheredBelow ws s k refs true m → is-class (class ws s) ≡ true
@@ -166,7 +147,7 @@ pub gathered-room : {ws : List ℕ} {s k : ℕ} {refs : List ℕ} {m : ℕ} → 
 gathered-room {ws} {s} {k} g c l =
     omega (
       arith,
-      gathered-few g,
+      g .few refl,
       block-inside (class ws s) k c l,
       mul-le-mul-right k (less (block-words (class ws s))),
     )
@@ -182,9 +163,11 @@ gathered-step {ws} {s} {k} {i} {b} {refs} {refs'} {m} {right} {count} g t e u a 
       a .header ∙ ap₂ header-right e u
       ∙ sym (all-below-step k (headed ws s) ∙ ap₂ _&&_ (sym (g .headers)) (headed-taken ws s k t));
   room = a .room;
-  words = λ r.
-      a .words r ∙ ap₂ _++_ (g .words refl) (ap references-in u ∙ sym (references-taken ws s k t))
-      ∙ sym (lists-step k (references-of ws s));
+  few = λ r. omega (arith, a .few r, g .few refl, ap block-words e, mul-add (block-words (class ws s) - 1) k 1);
+  tests = λ r p none.
+      ap (all-words p) (a .words r) ∙ all-words-append p (take m refs) (references-in b)
+      ∙ ap₂ _&&_ (g .tests refl p none) (ap (all-words p) (ap references-in u ∙ sym (references-taken ws s k t)))
+      ∙ sym (all-below-step k (λ k. all-words p (references-of ws s k)));
 }
 
 pub gathered-skip : {ws : List ℕ} {s a b : ℕ} {refs : List ℕ} {right : Bool} {m : ℕ} → GatheredBelow ws s a refs right m → a ≤ b
@@ -193,22 +176,13 @@ gathered-skip {ws} {s} {a} {b} g l free = record {
   long = g .long;
   headers = g .headers ∙ sym (skip-headed ws s a b l free);
   room = g .room;
-  words = λ r. g .words r ∙ sym (skip-references ws s a b l free);
-}
-
--- and back
-pub gathered-back : {ws : List ℕ} {s a b : ℕ} {refs : List ℕ} {right : Bool} {m : ℕ} → GatheredBelow ws s b refs right m → a ≤ b
-    → ((k : ℕ) → a ≤ k → k < b → taken-at ws s k ≡ false) → GatheredBelow ws s a refs right m
-gathered-back {ws} {s} {a} {b} g l free = record {
-  long = g .long;
-  headers = g .headers ∙ skip-headed ws s a b l free;
-  room = g .room;
-  words = λ r. g .words r ∙ skip-references ws s a b l free;
+  few = λ r. omega (arith, g .few r, mul-le-mul-left (block-words (class ws s) - 1) l);
+  tests = λ r p none. g .tests r p none ∙ sym (skip-tests ws s a b l free p);
 }
 
 pub gathered-right : {ws : List ℕ} {s k : ℕ} {refs : List ℕ} {right : Bool} {m : ℕ} → GatheredBelow ws s k refs right m → right ≡ true
     → GatheredBelow ws s k refs true m
-gathered-right g e = record { long = g .long; headers = sym e ∙ g .headers; room = λ _. g .room e; words = λ _. g .words e }
+gathered-right g e = record { long = g .long; headers = sym e ∙ g .headers; room = λ _. g .room e; few = λ _. g .few e; tests = λ _. g .tests e }
 
 -- one wrong header is enough
 pub gathered-wrong : {ws : List ℕ} {s a b : ℕ} {refs : List ℕ} {right : Bool} {m : ℕ} → GatheredBelow ws s a refs right m → right ≡ false → a ≤ b
@@ -218,7 +192,8 @@ gathered-wrong {ws} {s} {a} {b} g e l = record {
   headers =
       e ∙ sym (all-below-split a b (headed ws s) l ∙ ap (λ (t : Bool). t && all-below (b - a) (λ k. headed ws s (a + k))) (sym (g .headers) ∙ e));
   room = λ r. absurd (false≢true (sym e ∙ r));
-  words = λ r. absurd (false≢true (sym e ∙ r));
+  few = λ r. absurd (false≢true (sym e ∙ r));
+  tests = λ r. absurd (false≢true (sym e ∙ r));
 }
 
 -- ---- by the set bits of a word
@@ -344,6 +319,14 @@ module _ {ws : List ℕ} {N s i : ℕ} (o : Of ws N s i) where
 
 -- ---- word by word
 
+-- the blocks of a class up to 7 are a multiple of 32
+pub whole-words : (i : ℕ) → 3 ≤ i → i ≤ 7 → 32 * words-for (blocks i) ≡ blocks i
+unfolding all-below
+whole-words i low small =
+    eqb-true (32 * words-for (blocks i)) (blocks i)
+    (sym (ap (λ (t : Bool). t || eqb (32 * words-for (blocks i)) (blocks i)) (le-ltb 7 i small))
+    ∙ class-rule (λ j. ltb 7 j || eqb (32 * words-for (blocks j)) (blocks j)) refl i (bounds-class i low (omega arith)))
+
 pub row-word-bits : {ws row : List ℕ} → TakenRow ws row → (s j b : ℕ) → s < segments ws → j < 64 → b < 32
     → bit (word row (1 + 64 * s + j)) b ≡ taken-at ws s (32 * j + b)
 row-word-bits {ws} {row} t s j b there inside small =
@@ -351,7 +334,7 @@ row-word-bits {ws} {row} t s j b there inside small =
     ap₂ (λ (o c : ℕ). bit (word row o) c) (omega arith) (omega arith) ∙ row-bit-taken t x (omega arith) ∙ is-taken-at ws x
     ∙ ap₂ (taken-at ws) (omega arith) (omega arith)
 
--- the last word may have bits past the last block
-pub gathered-end : {ws : List ℕ} {s end : ℕ} {refs : List ℕ} {right : Bool} {m i : ℕ} → GatheredBelow ws s end refs right m → i ≡ class ws s
+-- where blocks are not large, their bits fill whole words
+pub gathered-end : {ws : List ℕ} {s end : ℕ} {refs : List ℕ} {right : Bool} {m i : ℕ} → GatheredBelow ws s end refs right m → 3 ≤ i → i ≤ 7
     → end ≡ 32 * words-for (blocks i) → GatheredBelow ws s (blocks i) refs right m
-gathered-end {ws} {s} g c e = gathered-back g (omega arith) (λ k l u. taken-at-inside ws s k (omega (arith, ap blocks c)))
+gathered-end {ws} {s} {end} {refs} {right} {m} {i} g low small e = subst (λ (n : ℕ). GatheredBelow ws s n refs right m) (e ∙ whole-words i low small) g

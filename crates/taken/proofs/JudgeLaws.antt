@@ -1,63 +1,38 @@
 -- Laws of the judge: with right headers, all is right with a segment's taken blocks where the gathered references are each 0 or a taken block.
 -- Assumes nothing.
-use Prim.Native.Nat.{ℕ, zero, suc, _+_, _*_, _≤_, _<_}
+use Prim.Native.Nat.{ℕ, _+_, _*_, _<_}
 use mathlib.Core.Path.{_≡_, refl, sym, ap, ap₂, _∙_}
 use mathlib.Core.Bool.{Bool, true, false, not, _&&_, _||_, and-assoc}
-use mathlib.Core.List.{List, _++_}
+use mathlib.Core.List.{List}
 use native.Mathlib.Omega.{arith}
 use lib.Dec.{eqb, leb}
-use lib.ListN.{length, take, length-append, List·getD-append}
-use lib.Seq.{length-take-le, getD-take, getD-append-add}
+use lib.ListN.{take}
 use borrow.Author.Tests.{ne-eqb}
-use Rattle.model.specs.Below.{all-below, lists-below}
-use Rattle.model.specs.Word.{word, part}
+use Rattle.model.specs.Below.{all-below}
+use Rattle.model.specs.Word.{part}
 use Rattle.model.specs.Class.{blocks, block-words, class-of}
 use Rattle.model.specs.Layout.{block-at}
 use Rattle.model.specs.View.{segments, class, block-of, n-in, r-in, reference-in}
 use Rattle.model.specs.Standing.{in-pool, taken-at, none-or-taken}
 use Rattle.model.specs.Sound.{block-right, taken-right}
-use Rattle.laws.proofs.Below.{all-below-at, all-below-ext, all-below-add, all-below-fails, all-below-finds}
-use Rattle.laws.proofs.Splice.{length-part, word-part}
+use Rattle.laws.proofs.Below.{all-below-at, all-below-ext, all-below-fails, all-below-finds}
 use Rattle.words.proofs.ClassLaws.{bounds-class, blocks-most}
 use Rattle.taken.specs.Row.{TakenRow, row-taken, row-none-or-taken}
-use Rattle.taken.specs.Gather.{all-words, references-in, header-right, headed, references-of, right-at, segment-right, GatheredBelow, Of}
+use Rattle.taken.specs.Gather.{all-words, references-in, header-word-right, header-right, headed, references-of, right-at, segment-right, GatheredBelow, Of}
 use Rattle.taken.proofs.RowLaws.{row-none-or-taken-is, row-taken-is, is-taken-at}
-use Rattle.taken.proofs.GatherLaws.{header-room, headed-free, headed-taken, references-free, references-taken, block-long, block-handed, taken-inside}
-
--- ---- a test of each word of a list
-
-all-words-append : (p : ℕ → Bool) (xs ys : List ℕ) → all-words p (xs ++ ys) ≡ (all-words p xs && all-words p ys)
-all-words-append p xs ys =
-    ap (λ (n : ℕ). all-below n (λ f. p (word (xs ++ ys) f))) (length-append xs ys)
-    ∙ all-below-add (length xs) (length ys) (λ f. p (word (xs ++ ys) f))
-    ∙ ap₂ _&&_
-    (all-below-ext (length xs) (λ f. p (word (xs ++ ys) f)) (λ f. p (word xs f)) (λ f l. ap p (List·getD-append xs ys 0 f l)))
-    (all-below-ext (length ys) (λ f. p (word (xs ++ ys) (length xs + f))) (λ f. p (word ys f)) (λ f l. ap p (getD-append-add xs ys f 0)))
-
-all-words-lists : (p : ℕ → Bool) (n : ℕ) (f : ℕ → List ℕ) → all-words p (lists-below n f) ≡ all-below n (λ k. all-words p (f k))
-unfolding lists-below all-below
-all-words-lists p zero f = refl
-all-words-lists p (suc n) f = all-words-append p (lists-below n f) (f n) ∙ ap (λ (t : Bool). t && all-words p (f n)) (all-words-lists p n f)
-
-all-words-ext : (p q : ℕ → Bool) (xs : List ℕ) → ((x : ℕ) → p x ≡ q x) → all-words p xs ≡ all-words q xs
-all-words-ext p q xs h = all-below-ext (length xs) (λ f. p (word xs f)) (λ f. q (word xs f)) (λ f _. h (word xs f))
-
-all-words-part : (p : ℕ → Bool) (xs : List ℕ) (o n : ℕ) → o + n ≤ length xs → all-words p (part xs o n) ≡ all-below n (λ f. p (word xs (o + f)))
-all-words-part p xs o n l =
-    ap (λ (m : ℕ). all-below m (λ f. p (word (part xs o n) f))) (length-part xs o n l)
-    ∙ all-below-ext n (λ f. p (word (part xs o n) f)) (λ f. p (word xs (o + f))) (λ f u. ap p (word-part xs o n f u))
+use Rattle.taken.proofs.GatherLaws.{all-words-ext, all-words-part, header-room, headed-free, headed-taken, references-free, references-taken, block-long, block-handed, taken-inside}
 
 -- ---- one block
 
 -- a block with a right header is right if its references are
 right-header : (ws : List ℕ) (i : ℕ) (b : List ℕ) → header-right i b ≡ true → block-right ws i b ≡ all-below (r-in b) (λ f. none-or-taken ws (reference-in b f))
-unfolding header-right block-right
+unfolding header-word-right block-right
 right-header ws i b t =
     sym (and-assoc (eqb (class-of (n-in b)) i) (leb (r-in b) (n-in b)) (all-below (r-in b) (λ f. none-or-taken ws (reference-in b f))))
     ∙ ap (λ (u : Bool). u && all-below (r-in b) (λ f. none-or-taken ws (reference-in b f))) t
 
 wrong-header : (ws : List ℕ) (i : ℕ) (b : List ℕ) → header-right i b ≡ false → block-right ws i b ≡ false
-unfolding header-right block-right
+unfolding header-word-right block-right
 wrong-header ws i b t =
     sym (and-assoc (eqb (class-of (n-in b)) i) (leb (r-in b) (n-in b)) (all-below (r-in b) (λ f. none-or-taken ws (reference-in b f))))
     ∙ ap (λ (u : Bool). u && all-below (r-in b) (λ f. none-or-taken ws (reference-in b f))) t
@@ -106,8 +81,7 @@ module _ {ws : List ℕ} {N s i : ℕ} (o : Of ws N s i) where
   judged-right {refs} {right} {m} {row} g e p t tested =
       tested
       ∙ all-words-ext (row-none-or-taken row) (none-or-taken ws) (take m refs) (row-none-or-taken-is t)
-      ∙ ap (all-words (none-or-taken ws)) (g .words e)
-      ∙ all-words-lists (none-or-taken ws) (blocks i) (references-of ws s)
+      ∙ g .tests e (none-or-taken ws) refl
       ∙ ap (λ (n : ℕ). all-below n (λ k. all-words (none-or-taken ws) (references-of ws s k))) same
       ∙ all-below-ext (blocks (class ws s)) (λ k. all-words (none-or-taken ws) (references-of ws s k)) (right-at ws s)
       (λ k l. right-references k l (all-below-at (blocks i) (headed ws s) (sym (g .headers) ∙ e) k (omega (arith, same))))

@@ -1,3 +1,4 @@
 pub mod RowLaws
 pub mod GatherLaws
 pub mod JudgeLaws
+pub mod BesideLaws

@@ -6,17 +6,21 @@ use mathlib.Core.Bool.{Bool, true, not, cond, _&&_, _||_}
 use mathlib.Core.List.{List, [], _++_}
 use lib.ListN.{length, take}
 use lib.Dec.{eqb, leb}
-use Rattle.model.specs.Below.{all-below, lists-below}
-use Rattle.model.specs.Word.{word, part, bit}
+use Rattle.model.specs.Below.{all-below}
+use Rattle.model.specs.Word.{word, field, part, bit}
 use Rattle.model.specs.Class.{blocks, block-words, class-of}
+use Rattle.model.specs.Layout.{block-at}
 use Rattle.model.specs.View.{segments, class, block-of, n-in, r-in}
 use Rattle.model.specs.Standing.{in-pool, taken-at}
 use Rattle.model.specs.Sound.{block-right}
 use Rattle.taken.specs.Row.{Classed, Member, TakenRow}
 
 -- a header of class i: "n whose class is the segment's, r not above n"
-unfoldable pub header-right : ℕ → List ℕ → Bool
-header-right i b = eqb (class-of (n-in b)) i && leb (r-in b) (n-in b)
+unfoldable pub header-word-right : ℕ → ℕ → Bool
+header-word-right i w = eqb (class-of (field 0 12 w)) i && leb (field 12 12 w) (field 0 12 w)
+
+abbrev pub header-right : ℕ → List ℕ → Bool
+header-right i b = header-word-right i (word b 0)
 
 -- a test of each word of a list
 abbrev pub all-words : (ℕ → Bool) → List ℕ → Bool
@@ -71,15 +75,19 @@ pub record Added (i : ℕ) (b refs : List ℕ) (m : ℕ) (refs' : List ℕ) (rig
   pub long : length refs' ≡ 4096
   pub header : right ≡ header-right i b
   pub room : right ≡ true → count ≤ 4096
+  pub few : right ≡ true → count ≤ m + (block-words i - 1)
   pub words : right ≡ true → take count refs' ≡ take m refs ++ references-in b
 
 -- ---- what the blocks of a segment below `end` give
 
+-- where their headers are right, the row has their references, and perhaps zeros: a test that 0 passes is passed by all words of the row exactly
+-- if all references pass it
 pub record GatheredBelow (ws : List ℕ) (s end : ℕ) (refs : List ℕ) (right : Bool) (count : ℕ) : Type 0 where
   pub long : length refs ≡ 4096
   pub headers : right ≡ all-below end (headed ws s)
   pub room : right ≡ true → count ≤ 4096
-  pub words : right ≡ true → take count refs ≡ lists-below end (references-of ws s)
+  pub few : right ≡ true → count ≤ (block-words (class ws s) - 1) * end
+  pub tests : right ≡ true → (p : ℕ → Bool) → p 0 ≡ true → all-words p (take count refs) ≡ all-below end (λ k. all-words p (references-of ws s k))
 
 -- segment s, of class i, of an arena of N segments
 pub record Of (ws : List ℕ) (N s i : ℕ) : Type 0 where
@@ -99,9 +107,24 @@ pub record AtWord (ws : List ℕ) (N s i j w : ℕ) (refs : List ℕ) (m : ℕ) 
   pub bits : (b : ℕ) → b < 32 → bit w b ≡ taken-at ws s (32 * j + b)
   pub gathered : GatheredBelow ws s (32 * j) refs true m
 
--- asked for a whole segment
+-- asked for them where all are taken, and small
+pub record AtFull (ws : List ℕ) (N s i j : ℕ) (refs : List ℕ) (m : ℕ) : Type 0 where
+  pub of : Of ws N s i
+  pub small : i ≤ 4
+  pub inside : 32 * j + 32 ≤ blocks i
+  pub taken : (b : ℕ) → b < 32 → taken-at ws s (32 * j + b) ≡ true
+  pub gathered : GatheredBelow ws s (32 * j) refs true m
+
+-- asked for so many words from block k on
+pub record From (ws : List ℕ) (N s i k count : ℕ) : Type 0 where
+  pub of : Of ws N s i
+  pub inside : k < blocks i
+  pub within : block-at N s i k + count ≤ length ws
+
+-- asked for a whole segment of blocks that are not large
 pub record AtSegment (ws : List ℕ) (N s i : ℕ) (row refs : List ℕ) : Type 0 where
   pub of : Of ws N s i
+  pub small : i ≤ 7
   pub taken : TakenRow ws row
   pub long : length refs ≡ 4096
 

@@ -2,18 +2,25 @@
 //
 // The taken blocks of a segment are found by the set bits of the row's words. The header of each is tested, and
 // its references are put end to end into a row, of which a segment needs less than 4,096 words: a block has room
-// for its header besides.
+// for its header besides. Where all 32 blocks of a word are taken and small, they are gathered field by field: a
+// block that has no such reference gives 0, which is right as a reference.
 ghost use mathlib.Core.Path.{_≡_};
-ghost use Prim.Native.Nat.{_+_, _*_, _<_};
-ghost use lib.ListN.{length};
+ghost use mathlib.Core.Bool.{not};
+ghost use Prim.Native.Nat.{_+_, _-_, _*_, _<_, _≤_};
+ghost use lib.Dec.{eqb};
+ghost use Rattle.model.specs.Below.{one-if, all-below};
+ghost use Rattle.model.specs.Word.{part};
 ghost use Rattle.model.specs.Class.{blocks};
-ghost use Rattle.taken.specs.Gather.{header-right, Copying, Copied, Putting, Adding, Added, GatheredBelow, AtBlock, AtWord, AtSegment};
+ghost use Rattle.model.specs.Layout.{block-at};
+ghost use Rattle.taken.specs.Gather.{header-word-right, header-right, Copying, Copied, Putting, Adding, Added, GatheredBelow, AtBlock, AtWord, AtFull, From, AtSegment};
+ghost use Rattle.taken.specs.Beside.{Beside, beside, reference-or-none, InColumn, column-word, Column, InOrder, Columns, InColumns, AddingBeside, AddedBeside};
 use arena::block_of;
 use model::BlockIndex;
 use words::class::blocks;
 use words::class::class_of;
 use words::fields::header_n;
 use words::fields::header_r;
+use words::handles::offset;
 use words::slices::wide;
 
 // What was gathered: whether all headers are right, and how many references there are if they are.
@@ -29,11 +36,9 @@ pub struct Member {
     pub class: u32,
 }
 
-pub fn header_right(block: &[u32], class: u32) -> bool
-    requires { ⌜ 0 < length (now block) ⌝ }
-    ensures { λ r. ⌜ r ≡ header-right class (now (block .entry)) ⌝ }
+pub fn header_right(w: u32, class: u32) -> bool
+    ensures { λ r. ⌜ r ≡ header-word-right class w ⌝ }
 {
-    let w = block[0];
     let n = header_n(w);
     if class_of(n) != class {
         return false;
@@ -74,7 +79,7 @@ fn add_block(block: &[u32], class: u32, refs: &mut [u32; 4096], m: usize) -> Gat
     requires { ⌜ Adding class (now block) (now refs) m ⌝ }
     ensures { λ g. ⌜ Added class (now (block .entry)) (now (refs .entry)) m (now (refs .exit)) (g .right) (g .count) ⌝ }
 {
-    if !header_right(block, class) {
+    if !header_right(block[0], class) {
         return Gathered {
             right: false,
             count: m,
@@ -96,8 +101,115 @@ fn gather_block(arena: &[u32], of: Member, k: u32, refs: &mut [u32; 4096], m: us
     add_block(block, of.class, refs, m)
 }
 
+// How many headers are wrong of 32 blocks that stand side by side.
+fn wrong_headers(words: &[u32], size: usize, class: u32) -> u32
+    requires { ⌜ Beside (now words) size ⌝ }
+    ensures { λ r. ⌜ eqb r 0 ≡ all-below 32 (λ k. header-right class (beside (now (words .entry)) size k)) ⌝ }
+{
+    let mut wrong: u32 = 0;
+    let mut k: usize = 0;
+    while k < 32 {
+        wrong += is_wrong(words[begin(size, k)], class);
+        k += 1;
+    }
+    wrong
+}
+
+// 1 for a wrong header, 0 for a right one.
+fn is_wrong(w: u32, class: u32) -> u32
+    ensures { λ r. ⌜ (r ≡ one-if (not (header-word-right class w))) × (r ≤ 1) ⌝ }
+{
+    (!header_right(w, class)) as u32
+}
+
+// Where block k of 32 begins.
+fn begin(size: usize, k: usize) -> usize
+    requires { ⌜ (size ≤ 4) × (k < 32) ⌝ }
+    ensures { λ r. ⌜ (r ≡ size * k) × (r + size ≤ 32 * size) ⌝ }
+{
+    size * k
+}
+
+// Word v of a block with that header if it is its reference f, and 0 if it is not.
+fn reference_or_none(header: u32, f: usize, v: u32) -> u32
+    ensures { λ r. ⌜ r ≡ reference-or-none header f v ⌝ }
+{
+    if f < wide(header_r(header)) { v } else { 0 }
+}
+
+// The same of block k of 32.
+fn column_word(words: &[u32], size: usize, f: usize, k: usize) -> u32
+    requires { ⌜ InColumn (now words) size f k ⌝ }
+    ensures { λ r. ⌜ r ≡ column-word (now (words .entry)) size f k ⌝ }
+{
+    let header = begin(size, k);
+    reference_or_none(words[header], f, words[header + 1 + f])
+}
+
+// Puts reference f of each of 32 blocks, from word `at` on.
+fn put_column(words: &[u32], size: usize, f: usize, refs: &mut [u32; 4096], at: usize)
+    requires { ⌜ Column (now words) size f (now refs) at ⌝ }
+    ensures { λ _. ⌜ InOrder (column-word (now (words .entry)) size f) (now (refs .entry)) at 32 (now (refs .exit)) ⌝ }
+{
+    let mut k: usize = 0;
+    while k < 32 {
+        refs[at + k] = column_word(words, size, f, k);
+        k += 1;
+    }
+}
+
+// Puts all of them behind the first m words, field by field.
+fn put_columns(words: &[u32], size: usize, refs: &mut [u32; 4096], m: usize)
+    requires { ⌜ Columns (now words) size (now refs) m ⌝ }
+    ensures { λ _. ⌜ InColumns (now (words .entry)) size (now (refs .entry)) m (size - 1) (now (refs .exit)) ⌝ }
+{
+    let mut f: usize = 0;
+    while f + 1 < size {
+        put_column(words, size, f, refs, m + 32 * f);
+        f += 1;
+    }
+}
+
+fn gather_beside(
+    words: &[u32],
+    size: usize,
+    class: u32,
+    refs: &mut [u32; 4096],
+    m: usize,
+) -> Gathered
+    requires { ⌜ AddingBeside class (now words) size (now refs) m ⌝ }
+    ensures { λ g. ⌜ AddedBeside class (now (words .entry)) size (now (refs .entry)) m (now (refs .exit)) (g .right) (g .count) ⌝ }
+{
+    put_columns(words, size, refs, m);
+    Gathered {
+        right: wrong_headers(words, size, class) == 0,
+        count: m + 32 * (size - 1),
+    }
+}
+
+// So many words of the arena, from block k on.
+fn words_from(arena: &[u32], of: Member, k: u32, count: usize) -> &[u32]
+    requires { ⌜ From (now arena) (of .n) (of .s) (of .class) k count ⌝ }
+    ensures { λ r. ⌜ now r ≡ part (now (arena .entry)) (block-at (of .n) (of .s) (of .class) k) count ⌝ }
+{
+    let from = offset(of.n, of.s, of.class, BlockIndex(k)).0;
+    let end = from + count;
+    &arena[from..end]
+}
+
+// The blocks of a word, of which all are taken, of class 3 or 4.
+fn gather_full(arena: &[u32], of: Member, j: u32, refs: &mut [u32; 4096], m: usize) -> Gathered
+    requires { ⌜ AtFull (now arena) (of .n) (of .s) (of .class) j (now refs) m ⌝ }
+    ensures { λ g. ⌜ GatheredBelow (now (arena .entry)) (of .s) (32 * j + 32) (now (refs .exit)) (g .right) (g .count) ⌝ }
+{
+    if of.class == 3 {
+        return gather_beside(words_from(arena, of, 32 * j, 64), 2, of.class, refs, m);
+    }
+    gather_beside(words_from(arena, of, 32 * j, 128), 4, of.class, refs, m)
+}
+
 // The blocks of a word's set bits.
-fn gather_word(
+fn gather_bits(
     arena: &[u32],
     of: Member,
     j: u32,
@@ -120,6 +232,26 @@ fn gather_word(
         left = left & (left - 1);
     }
     Gathered { right: true, count }
+}
+
+fn gather_word(
+    arena: &[u32],
+    of: Member,
+    j: u32,
+    w: u32,
+    refs: &mut [u32; 4096],
+    m: usize,
+) -> Gathered
+    requires { ⌜ AtWord (now arena) (of .n) (of .s) (of .class) j w (now refs) m ⌝ }
+    ensures { λ g. ⌜ GatheredBelow (now (arena .entry)) (of .s) (32 * j + 32) (now (refs .exit)) (g .right) (g .count) ⌝ }
+{
+    if w != 0xFFFF_FFFF {
+        return gather_bits(arena, of, j, w, refs, m);
+    }
+    if 4 < of.class {
+        return gather_bits(arena, of, j, w, refs, m);
+    }
+    gather_full(arena, of, j, refs, m)
 }
 
 pub fn gather_segment(

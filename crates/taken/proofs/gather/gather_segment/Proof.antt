@@ -79,7 +79,7 @@ returns c =
     let test = c .before .before .before .before .before .before .before .loop-test .taken in
     let end : ℕ = 32 * words-for (blocks (a .of .class)) in
     gathered-end (gathered-wrong {b = end} (c .before .before .gather-word .ensures) (not-true _ (c .if1 .taken)) (omega (arith, test, inv .0)))
-    (p .of .member .class) refl
+    (p .of .member .low) (p .small) refl
 
 add-j : tie.Need-add-j Inv-loop μ-loop
 add-j c = search needs
@@ -96,7 +96,7 @@ loop-again c =
 returns-2 : tie.Need-returns-2 Inv-loop μ-loop
 returns-2 c =
     let inv = c .before .loop .inv in
-    gathered-end (inv .3) (c .before .before .before .before .pre .of .member .class) (omega (arith, inv .0, inv .2, c .loop-test .left))
+    gathered-end (inv .3) (c .before .before .before .before .pre .of .member .low) (c .before .before .before .before .pre .small) (omega (arith, inv .0, inv .2, c .loop-test .left))
 
 pub gather-segment-spec : {M : Type 1} → statement M
 gather-segment-spec =

@@ -1,69 +1,53 @@
--- `taken::gather::gather_word` meets its contract. The loop's invariant: the blocks before the lowest bit that is left are gathered.
--- Assumes nothing.
+-- `taken::gather::gather_word` meets its contract. Assumes nothing.
+use Prim.Native.Nat.{ℕ, _+_, _*_, _<_}
 use native.Mathlib.Omega.{arith}
-use lib.Count.{trailing-le}
+use mathlib.Core.Path.{_≡_, sym, ap, _∙_}
+use mathlib.Core.Bool.{true}
 use borrow.Author.Needs.{needs}
-use borrow.Author.Tests.{not-true, not-false}
-use Rattle.taken.proofs.GatherLaws.{Left, left-all, left-less, left-step, left-taken, left-none, trailing-lt, gathered-right, gathered-wrong}
+use Rattle.model.specs.Word.{bit}
+use Rattle.model.specs.Class.{blocks}
+use Rattle.model.specs.Standing.{taken-at}
+use Rattle.laws.proofs.Bits.{bit-ones}
+use Rattle.taken.proofs.GatherLaws.{taken-inside}
 use Rattle.taken.proofs.gather.gather_word.Statement.{statement}
 use Rattle.taken.proofs.gather.gather_word.Tie as tie
 
-abbrev Inv-loop : tie.InvT-loop
-Inv-loop arena of j w refs₀ m left₀ count₀ refs left count = Left arena (of .s) j w left refs count
+gather-bits-requires : tie.Need-gather-bits-requires
+gather-bits-requires c κs = search needs
 
-abbrev μ-loop : tie.MeasureT-loop
-μ-loop arena of j w refs₀ m left₀ count₀ refs left count = left
+returns : tie.Need-returns
+returns c = search needs
 
-loop-holds : tie.Need-loop-holds Inv-loop μ-loop
-loop-holds c = left-all (c .before .pre) (search needs)
+gather-bits-requires-2 : tie.Need-gather-bits-requires-2
+gather-bits-requires-2 c κs = search needs
 
-mul-k : tie.Need-mul-k Inv-loop μ-loop
-mul-k c = search needs
+returns-2 : tie.Need-returns-2
+returns-2 c = search needs
 
-add-k : tie.Need-add-k Inv-loop μ-loop
-add-k c = omega (arith, c .before .before .before .pre .inside, trailing-le 32 (c .before .loop .left))
+gather-full-requires : tie.Need-gather-full-requires
+gather-full-requires c κs =
+    let a = c .before .before .before .before .before .args in
+    let p = c .before .before .before .before .before .pre in
+    let all : (b : ℕ) → b < 32 → taken-at (a .arena .now) (a .of .s) (32 * a .j + b) ≡ true =
+    λ b l. sym (p .bits b l) ∙ ap (λ (w : ℕ). bit w b) (c .before .before .before .if1 .left) ∙ bit-ones b l in
+    record {
+      of = p .of;
+      small = search needs;
+      inside = omega (arith, taken-inside (a .arena .now) (a .of .s) (32 * a .j + 31) (all 31 (omega arith)), ap blocks (p .of .member .class));
+      taken = all;
+      gathered = p .gathered;
+    }
 
-gather-block-requires : tie.Need-gather-block-requires Inv-loop μ-loop
-gather-block-requires c κs =
-    let p = c .before .before .before .before .pre in
-    let inv = c .before .before .loop .inv in
-    record { of = p .of; taken = left-taken p inv (c .before .loop-test .taken); gathered = inv .gathered }
-
-returns : tie.Need-returns Inv-loop μ-loop
-returns c =
-    let inv = c .before .before .before .before .before .loop .inv in
-    let small = trailing-lt _ (inv .small) (c .before .before .before .before .loop-test .taken) in
-    gathered-wrong (c .before .before .gather-block .ensures) (not-true _ (c .if1 .taken)) (omega (arith, small))
-
-sub-left : tie.Need-sub-left Inv-loop μ-loop
-sub-left c = search needs
-
-loop-less : tie.Need-loop-less Inv-loop μ-loop
-loop-less c =
-    left-less (c .before .before .before .before .before .loop .left) (c .before .before .before .before .before .loop .inv .small)
-    (c .before .before .before .before .loop-test .taken)
-
-loop-again : tie.Need-loop-again Inv-loop μ-loop
-loop-again c =
-    left-step (c .before .before .before .before .before .before .before .pre) (c .before .before .before .before .before .loop .inv)
-    (c .before .before .before .before .loop-test .taken)
-    (gathered-right (c .before .before .gather-block .ensures) (not-false _ (c .if1 .left)))
-
-returns-2 : tie.Need-returns-2 Inv-loop μ-loop
-returns-2 c = left-none (c .before .loop .inv) (c .loop-test .left)
+returns-3 : tie.Need-returns-3
+returns-3 c = search needs
 
 pub gather-word-spec : {M : Type 1} → statement M
 gather-word-spec =
     tie.close
     (tie.spec
-    Inv-loop
-    μ-loop
-    loop-holds
-    mul-k
-    add-k
-    gather-block-requires
+    gather-bits-requires
     returns
-    sub-left
-    loop-less
-    loop-again
-    returns-2)
+    gather-bits-requires-2
+    returns-2
+    gather-full-requires
+    returns-3)

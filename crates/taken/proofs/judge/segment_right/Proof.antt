@@ -61,7 +61,7 @@ returns-2 c =
 small-right-requires : tie.Need-small-right-requires
 small-right-requires c κs =
     let p = c .before .before .before .before .before .pre in
-    record { of = of (c .before .before); taken = p .taken; long = p .long }
+    record { of = of (c .before .before); small = search needs; taken = p .taken; long = p .long }
 
 returns-3 : tie.Need-returns-3
 returns-3 c = c .small-right .ensures

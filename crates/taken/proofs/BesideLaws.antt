@@ -1,0 +1,214 @@
+-- Laws of blocks that stand side by side: their references field by field pass a test that 0 passes exactly if all their references do.
+-- Assumes nothing.
+use Prim.Native.Nat.{ℕ, zero, suc, _+_, _-_, _*_, _≤_, _<_}
+use mathlib.Core.Path.{_≡_, refl, sym, ap, ap₂, _∙_}
+use mathlib.Core.Bool.{Bool, true, false, not, _&&_, cond, and-true, and-false}
+use mathlib.Core.List.{List}
+use native.Mathlib.Nat.{mul-add, mul-suc, add-zero, mul-le-mul-left, mul-le-mul-right}
+use native.Mathlib.Omega.{arith}
+use lib.Dec.{eqb, ltb}
+use lib.ListN.{length, take, set, length-set}
+use lib.Seq.{getD-set-same, getD-set-other}
+use borrow.Author.Count.{below-more}
+use borrow.Author.Tests.{lt-ltb, le-ltb, ne-eqb}
+use Rattle.model.specs.Below.{one-if, all-below}
+use Rattle.model.specs.Word.{word, field, part}
+use Rattle.model.specs.Class.{is-class, blocks, block-words}
+use Rattle.model.specs.Layout.{arena-length, block-at}
+use Rattle.model.specs.View.{class, block-of, r-in}
+use Rattle.model.specs.Standing.{taken-at}
+use Rattle.laws.proofs.Below.{all-below-at, all-below-intro, all-below-ext, all-below-step, all-below-add, all-below-split}
+use Rattle.laws.proofs.Splice.{length-part, word-part, part-part}
+use Rattle.words.proofs.ClassLaws.{bounds-class, blocks-fill}
+use Rattle.words.proofs.HandleLaws.{block-in-arena}
+use Rattle.taken.specs.Gather.{all-words, header-word-right, header-right, references-in, headed, references-of, GatheredBelow, Of, AtFull}
+use Rattle.taken.specs.Beside.{Beside, beside, column-word, InOrder, InColumns, AddedBeside}
+use Rattle.taken.proofs.GatherLaws.{all-words-take, all-words-part, header-room, headed-taken, references-taken, block-handed, of-class}
+
+-- ---- putting columns
+
+pub in-order-none : (f : ℕ → ℕ) (refs : List ℕ) (at : ℕ) → length refs ≡ 4096 → InOrder f refs at 0 refs
+in-order-none f refs at e = record { long = e; before = λ o _. refl; words = λ k l. absurd (omega arith) }
+
+pub in-order-step : {f : ℕ → ℕ} {refs refs' : List ℕ} {at k : ℕ} (v : ℕ) → InOrder f refs at k refs' → v ≡ f k → at + k < 4096
+    → InOrder f refs at (k + 1) (set refs' (at + k) v)
+in-order-step {f} {refs} {refs'} {at} {k} v h e l = record {
+  long = length-set refs' (at + k) v ∙ h .long;
+  before = λ o u. getD-set-other refs' (at + k) o v 0 (λ q. omega arith) ∙ h .before o u;
+  words = below-more (λ (i : ℕ). word (set refs' (at + k) v) (at + i) ≡ f i) k
+      (λ i u. getD-set-other refs' (at + k) (at + i) v 0 (λ q. omega arith) ∙ h .words i u)
+      (getD-set-same refs' (at + k) v 0 (omega (arith, h .long)) ∙ e);
+}
+
+pub in-columns-none : (words : List ℕ) (size : ℕ) (refs : List ℕ) (m : ℕ) → length refs ≡ 4096 → InColumns words size refs m 0 refs
+in-columns-none words size refs m e = record { long = e; before = λ o _. refl; fields = λ f k l u. absurd (omega arith) }
+
+pub in-columns-step : {words : List ℕ} {size : ℕ} {refs refs' refs″ : List ℕ} {m n : ℕ} → InColumns words size refs m n refs'
+    → InOrder (column-word words size n) refs' (m + 32 * n) 32 refs″ → InColumns words size refs m (n + 1) refs″
+in-columns-step {words} {size} {refs} {refs'} {refs″} {m} {n} h g = record {
+  long = g .long;
+  before = λ o u. g .before o (omega arith) ∙ h .before o u;
+  fields = λ f k l u.
+      below-more (λ (e : ℕ). (k : ℕ) → k < 32 → word refs″ (m + 32 * e + k) ≡ column-word words size e k) n
+      (λ e v j w. g .before (m + 32 * e + j) (omega arith) ∙ h .fields e j v w) (g .words) f l k u;
+}
+
+-- ---- tests, field by field and block by block
+
+same-test : (a b : Bool) → (a ≡ true → b ≡ true) → (b ≡ true → a ≡ true) → a ≡ b
+same-test true b f g = sym (f refl)
+same-test false true f g = g refl
+same-test false false f g = refl
+
+exchanged : (m n : ℕ) (q : ℕ → ℕ → Bool) → all-below m (λ f. all-below n (q f)) ≡ all-below n (λ k. all-below m (λ f. q f k))
+exchanged m n q =
+    same-test (all-below m (λ f. all-below n (q f))) (all-below n (λ k. all-below m (λ f. q f k)))
+    (λ t. all-below-intro n (λ k. all-below m (λ f. q f k)) (λ k u. all-below-intro m (λ f. q f k) (λ f l. all-below-at n (q f) (all-below-at m (λ f. all-below n (q f)) t f l) k u)))
+    (λ t. all-below-intro m (λ f. all-below n (q f)) (λ f l. all-below-intro n (q f) (λ k u. all-below-at m (λ f. q f k) (all-below-at n (λ k. all-below m (λ f. q f k)) t k u) f l)))
+
+by-rows : (n : ℕ) (q : ℕ → Bool) → all-below (32 * n) q ≡ all-below n (λ f. all-below 32 (λ k. q (32 * f + k)))
+unfolding all-below
+by-rows zero q = refl
+by-rows (suc n) q =
+    let more : 32 * suc n ≡ 32 * n + 32 = omega arith in
+    ap (λ (m : ℕ). all-below m q) more ∙ all-below-add (32 * n) 32 q
+    ∙ ap (λ (t : Bool). t && all-below 32 (λ k. q (32 * n + k))) (by-rows n q)
+
+module _ {words : List ℕ} {size : ℕ} (b : Beside words size) where
+  within : (k : ℕ) → k < 32 → size * k + size ≤ 32 * size
+  within k l = omega (arith, mul-le-mul-left size l, mul-suc size k)
+
+  block-word : (k o : ℕ) → o < size → word (beside words size k) o ≡ word words (size * k + o)
+  block-word k o l = word-part words (size * k) size o l
+
+  header : (k : ℕ) → word words (size * k) ≡ word (beside words size k) 0
+  header k = ap (word words) (sym (add-zero (size * k))) ∙ sym (block-word k 0 (omega (arith, b .some)))
+
+  -- one header more: `wrong` counts those that are not right
+  pub wrong-step : (i wrong k v : ℕ) → eqb wrong 0 ≡ all-below k (λ k. header-right i (beside words size k))
+      → v ≡ one-if (not (header-word-right i (word words (size * k)))) → eqb (wrong + v) 0 ≡ all-below (k + 1) (λ k. header-right i (beside words size k))
+  wrong-step i wrong k v h e =
+      ap (λ (x : ℕ). eqb (wrong + x) 0) (e ∙ ap (λ (x : ℕ). one-if (not (header-word-right i x))) (header k))
+      ∙ go (header-right i (beside words size k))
+      ∙ ap (λ (t : Bool). t && header-right i (beside words size k)) h
+      ∙ sym (all-below-step k (λ k. header-right i (beside words size k)))
+    where
+      go : (t : Bool) → eqb (wrong + one-if (not t)) 0 ≡ (eqb wrong 0 && t)
+      go true = ap (λ (x : ℕ). eqb x 0) (add-zero wrong) ∙ sym (and-true (eqb wrong 0))
+      go false = ne-eqb (wrong + 1) 0 (λ z. omega arith) ∙ sym (and-false (eqb wrong 0))
+
+  -- the words of a column at one block: its references, and zeros
+  one-block : (k : ℕ) → k < 32 → r-in (beside words size k) < size → (p : ℕ → Bool) → p 0 ≡ true
+      → all-below (size - 1) (λ f. p (column-word words size f k)) ≡ all-words p (references-in (beside words size k))
+  unfolding column-word
+  one-block k l few p none =
+      all-below-split r (size - 1) (λ f. p (column-word words size f k)) (omega arith)
+      ∙ ap₂ _&&_ (all-below-ext r (λ f. p (column-word words size f k)) (λ f. p (word (beside words size k) (1 + f))) (λ f u. ap p (has f u)))
+      (all-below-intro (size - 1 - r) (λ f. p (column-word words size (r + f) k)) (λ f u. ap p (has-not (r + f) (omega arith)) ∙ none))
+      ∙ and-true (all-below r (λ f. p (word (beside words size k) (1 + f))))
+      ∙ sym (all-words-part p (beside words size k) 1 r (omega (arith, length-part words (size * k) size (omega (arith, within k l, b .long)))))
+    where
+      r : ℕ
+      r = r-in (beside words size k)
+
+      count : field 12 12 (word words (size * k)) ≡ r
+      count = ap (field 12 12) (header k)
+
+      has : (f : ℕ) → f < r → column-word words size f k ≡ word (beside words size k) (1 + f)
+      has f u =
+          let there : size * k + 1 + f ≡ size * k + (1 + f) = omega arith in
+          ap (λ (t : Bool). cond t (word words (size * k + 1 + f)) 0) (lt-ltb f (field 12 12 (word words (size * k))) (omega (arith, count)))
+          ∙ ap (word words) there ∙ sym (block-word k (1 + f) (omega arith))
+
+      has-not : (f : ℕ) → r ≤ f → column-word words size f k ≡ 0
+      has-not f u = ap (λ (t : Bool). cond t (word words (size * k + 1 + f)) 0) (le-ltb f (field 12 12 (word words (size * k))) (omega (arith, count)))
+
+  pub added-beside : {refs refs' : List ℕ} {m i : ℕ} {right : Bool} → block-words i ≡ size → length refs ≡ 4096 → m + 32 * (size - 1) ≤ 4096
+      → InColumns words size refs m (size - 1) refs' → right ≡ all-below 32 (λ k. header-right i (beside words size k))
+      → AddedBeside i words size refs m refs' right (m + 32 * (size - 1))
+  added-beside {refs} {refs'} {m} {i} {right} own long room c h = record {
+    long = c .long;
+    headers = h;
+    counted = refl;
+    tests = λ yes-right p none.
+        all-words-take p (m + 32 * n) refs' (omega (arith, c .long))
+        ∙ all-below-add m (32 * n) (λ o. p (word refs' o))
+        ∙ ap₂ _&&_
+        (all-below-ext m (λ o. p (word refs' o)) (λ o. p (word refs o)) (λ o l. ap p (c .before o l)) ∙ sym (all-words-take p m refs (omega (arith, long))))
+        (by-rows n (λ o. p (word refs' (m + o)))
+        ∙ all-below-ext n (λ f. all-below 32 (λ k. p (word refs' (m + (32 * f + k))))) (λ f. all-below 32 (λ k. p (column-word words size f k)))
+        (λ f l. all-below-ext 32 (λ k. p (word refs' (m + (32 * f + k)))) (λ k. p (column-word words size f k)) (λ k u. ap p (ap (word refs') (omega arith) ∙ c .fields f k l u)))
+        ∙ exchanged n 32 (λ f k. p (column-word words size f k))
+        ∙ all-below-ext 32 (λ k. all-below n (λ f. p (column-word words size f k))) (λ k. all-words p (references-in (beside words size k)))
+        (λ k u. one-block k u (omega (arith, own, header-room i (beside words size k) (all-below-at 32 (λ k. header-right i (beside words size k)) (sym h ∙ yes-right) k u))) p none));
+  }
+    where
+      n : ℕ
+      n = size - 1
+
+-- ---- 32 blocks of a segment
+
+less : (z : ℕ) → z - 1 ≤ z
+less z = omega arith
+
+module _ {ws : List ℕ} {N s i j : ℕ} {refs : List ℕ} {m : ℕ} (a : AtFull ws N s i j refs m) where
+  own : block-words (class ws s) ≡ block-words i
+  own = ap block-words (sym (a .of .member .class))
+
+  pub full-class : is-class i ≡ true
+  full-class = bounds-class i (a .of .member .low) (a .of .member .high)
+
+  pub full-room : m + 32 * (block-words i - 1) ≤ 4096
+  full-room =
+      omega (
+        arith,
+        a .gathered .few refl,
+        own,
+        blocks-fill i full-class,
+        mul-le-mul-left (block-words i) (a .inside),
+        mul-add (block-words i) (32 * j) 32,
+        fewer,
+      )
+    where
+      fewer : (block-words (class ws s) - 1) * (32 * j) ≤ block-words i * (32 * j)
+      fewer = omega (arith, ap (λ (z : ℕ). z * (32 * j)) own, mul-le-mul-right (32 * j) (less (block-words (class ws s))))
+
+  -- they stand in the arena
+  pub full-within : block-at N s i (32 * j) + 32 * block-words i ≤ length ws
+  full-within =
+      omega (
+        arith,
+        a .of .member .long,
+        a .of .all,
+        ap arena-length (a .of .all),
+        block-in-arena N s i (32 * j + 31) (omega (arith, a .of .member .there, a .of .all)) full-class (omega (arith, a .inside)),
+        mul-add (block-words i) (32 * j) 31,
+      )
+
+  pub full-gathered : {words refs' : List ℕ} {size : ℕ} {right : Bool} {count : ℕ} → size ≡ block-words i → words ≡ part ws (block-at N s i (32 * j)) (32 * size)
+      → AddedBeside i words size refs m refs' right count → GatheredBelow ws s (32 * j + 32) refs' right count
+  full-gathered {words} {refs'} {size} {right} {count} big e d = record {
+    long = d .long;
+    headers =
+        d .headers
+        ∙ all-below-ext 32 (λ k. header-right i (beside words size k)) (λ k. headed ws s (32 * j + k))
+        (λ k l. ap₂ header-right (a .of .member .class) (its-block k l) ∙ sym (headed-taken ws s (32 * j + k) (a .taken k l)))
+        ∙ ap (λ (t : Bool). t && all-below 32 (λ k. headed ws s (32 * j + k))) (a .gathered .headers)
+        ∙ sym (all-below-add (32 * j) 32 (headed ws s));
+    room = λ _. omega (arith, d .counted, big, full-room);
+    few = λ _. omega (arith, d .counted, big, own, a .gathered .few refl, mul-add (block-words (class ws s) - 1) (32 * j) 32);
+    tests = λ r p none.
+        d .tests r p none
+        ∙ ap₂ _&&_ (a .gathered .tests refl p none)
+        (all-below-ext 32 (λ k. all-words p (references-in (beside words size k))) (λ k. all-words p (references-of ws s (32 * j + k)))
+        (λ k l. ap (all-words p) (ap references-in (its-block k l) ∙ sym (references-taken ws s (32 * j + k) (a .taken k l)))))
+        ∙ sym (all-below-add (32 * j) 32 (λ k. all-words p (references-of ws s k)));
+  }
+    where
+      its-block : (k : ℕ) → k < 32 → beside words size k ≡ block-of ws s (32 * j + k)
+      its-block k l =
+          let place : block-at N s i (32 * j) + size * k ≡ block-at N s i (32 * j + k) = omega (arith, mul-add (block-words i) (32 * j) k, ap (λ (z : ℕ). z * k) big) in
+          block-handed (a .of) (32 * j + k)
+          (ap (λ (xs : List ℕ). part xs (size * k) size) e
+          ∙ part-part ws (block-at N s i (32 * j)) (32 * size) (size * k) size (omega (arith, big, full-within)) (omega (arith, mul-le-mul-left size l, mul-suc size k))
+          ∙ ap₂ (part ws) place big)

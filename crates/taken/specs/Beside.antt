@@ -1,0 +1,72 @@
+-- 32 blocks that stand side by side, and their references field by field.
+-- Assumes nothing.
+use Prim.Native.Nat.{ℕ, _+_, _-_, _*_, _≤_, _<_}
+use mathlib.Core.Path.{_≡_}
+use mathlib.Core.Bool.{Bool, true, cond, _&&_}
+use mathlib.Core.List.{List}
+use lib.ListN.{length, take}
+use lib.Dec.{ltb}
+use Rattle.model.specs.Below.{all-below}
+use Rattle.model.specs.Word.{word, field, part}
+use Rattle.model.specs.Class.{block-words}
+use Rattle.taken.specs.Gather.{all-words, header-right, references-in}
+
+-- blocks of 2 or 4 words
+pub record Beside (words : List ℕ) (size : ℕ) : Type 0 where
+  pub some : 2 ≤ size
+  pub few : size ≤ 4
+  pub long : length words ≡ 32 * size
+
+-- block k of them
+abbrev pub beside : List ℕ → ℕ → ℕ → List ℕ
+beside words size k = part words (size * k) size
+
+-- word v of a block with that header if it is its reference f, and 0 if it is not
+abbrev pub reference-or-none : ℕ → ℕ → ℕ → ℕ
+reference-or-none header f v = cond (ltb f (field 12 12 header)) v 0
+
+unfoldable pub column-word : List ℕ → ℕ → ℕ → ℕ → ℕ
+column-word words size f k = reference-or-none (word words (size * k)) f (word words (size * k + 1 + f))
+
+pub record InColumn (words : List ℕ) (size f k : ℕ) : Type 0 where
+  pub beside : Beside words size
+  pub field : f + 1 < size
+  pub block : k < 32
+
+-- ---- putting one field of each, and all fields
+
+pub record Column (words : List ℕ) (size f : ℕ) (refs : List ℕ) (at : ℕ) : Type 0 where
+  pub beside : Beside words size
+  pub field : f + 1 < size
+  pub long : length refs ≡ 4096
+  pub room : at + 32 ≤ 4096
+
+-- the words from `at` on are the first n of f, and those before are as they were
+pub record InOrder (f : ℕ → ℕ) (refs : List ℕ) (at n : ℕ) (refs' : List ℕ) : Type 0 where
+  pub long : length refs' ≡ 4096
+  pub before : (o : ℕ) → o < at → word refs' o ≡ word refs o
+  pub words : (k : ℕ) → k < n → word refs' (at + k) ≡ f k
+
+pub record Columns (words : List ℕ) (size : ℕ) (refs : List ℕ) (m : ℕ) : Type 0 where
+  pub beside : Beside words size
+  pub long : length refs ≡ 4096
+  pub room : m + 32 * (size - 1) ≤ 4096
+
+-- the first n fields
+pub record InColumns (words : List ℕ) (size : ℕ) (refs : List ℕ) (m n : ℕ) (refs' : List ℕ) : Type 0 where
+  pub long : length refs' ≡ 4096
+  pub before : (o : ℕ) → o < m → word refs' o ≡ word refs o
+  pub fields : (f k : ℕ) → f < n → k < 32 → word refs' (m + 32 * f + k) ≡ column-word words size f k
+
+-- asked for 32 blocks of class i, and what they add to the references that are gathered already
+pub record AddingBeside (i : ℕ) (words : List ℕ) (size : ℕ) (refs : List ℕ) (m : ℕ) : Type 0 where
+  pub beside : Beside words size
+  pub own : block-words i ≡ size
+  pub long : length refs ≡ 4096
+  pub room : m + 32 * (size - 1) ≤ 4096
+
+pub record AddedBeside (i : ℕ) (words : List ℕ) (size : ℕ) (refs : List ℕ) (m : ℕ) (refs' : List ℕ) (right : Bool) (count : ℕ) : Type 0 where
+  pub long : length refs' ≡ 4096
+  pub headers : right ≡ all-below 32 (λ k. header-right i (beside words size k))
+  pub counted : count ≡ m + 32 * (size - 1)
+  pub tests : right ≡ true → (p : ℕ → Bool) → p 0 ≡ true → all-words p (take count refs') ≡ (all-words p (take m refs) && all-below 32 (λ k. all-words p (references-in (beside words size k))))
