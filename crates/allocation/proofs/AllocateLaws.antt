@@ -3,14 +3,15 @@
 use Prim.Native.Nat.{ℕ, _<_}
 use mathlib.Core.Path.{_≡_, sym, ap, ap₂, _∙_, subst}
 use mathlib.Core.Bool.{true, false, _||_}
-use mathlib.Core.List.{List}
+use mathlib.Core.List.{List, [], _∷_}
 use native.Mathlib.Omega.{arith}
 use borrow.Author.Tests.{le-ltb}
 use Rattle.model.specs.Class.{is-class, class-of}
 use Rattle.model.specs.Layout.{handle}
 use Rattle.model.specs.Calls.{class-has-untaken, has-pool, given-segment, given-index, allocated, allocate-refusal, Allocate}
-use Rattle.model.specs.declared.Handle.{Handle}
-use Rattle.model.specs.declared.Allocated.the-variants.{Block, NoRoom as no-room}
+use Rattle.model.specs.Numbers.{paper, allocated-paper}
+use Rattle.model.specs.declared.Allocated.{Allocated}
+use Rattle.model.specs.declared.Allocated.the-variants.{NoRoom as no-room}
 use Rattle.words.proofs.ClassLaws.{class-small, blocks-most}
 use Rattle.soundness.proofs.Tests.{or-left, or-right, or-fails}
 use Rattle.soundness.proofs.Facts.{Sound, sound-facts}
@@ -33,10 +34,11 @@ module _ (ws : List ℕ) (n r : ℕ) (h : Allowed ws n r) where
   refused t = simp (h .is-sound, le-ltb 1023 n (h .small), le-ltb n r (h .within), t)
 
   -- and the outcome then
-  given-outcome : (tag : ℕ) (g : Handle) (ws' : List ℕ) → (class-has-untaken ws (class-of n) || has-pool ws) ≡ true
-      → g .0 ≡ handle (given-segment ws (class-of n)) (given-index ws (class-of n)) → ws' ≡ allocated ws n r tag → Allocate ws n r tag (Block g) ws'
-  given-outcome tag g ws' t eg ew = record {
-    answered = rw (granted t, eg);
+  given-outcome : (tag : ℕ) (a : Allocated) (ws' : List ℕ) → (class-has-untaken ws (class-of n) || has-pool ws) ≡ true
+      → allocated-paper a ≡ paper 0 (handle (given-segment ws (class-of n)) (given-index ws (class-of n)) ∷ []) → ws' ≡ allocated ws n r tag
+      → Allocate ws n r tag a ws'
+  given-outcome tag a ws' t told ew = record {
+    answered = rw (granted t) told;
     words = rw (granted t) ew;
   }
 
@@ -70,11 +72,12 @@ module _ {ws : List ℕ} {n r i : ℕ} {found : Found} (s : Searched ws n r i fo
   same-has : class-has-untaken ws (class-of n) ≡ class-has-untaken ws i
   same-has = ap (class-has-untaken ws) (sym (s .class))
 
-  -- the handle of the block that is given
-  handle-is : (spot : Spot) (g : Handle) → Given ws i spot → g .0 ≡ handle (spot .segment) (spot .index .0)
-      → g .0 ≡ handle (given-segment ws (class-of n)) (given-index ws (class-of n))
-  handle-is spot g given eg =
-      eg ∙ ap₂ handle (given .segment ∙ ap (given-segment ws) (s .class)) (given .index ∙ ap (given-index ws) (s .class))
+  -- the answer that gives a block
+  told-is : (spot : Spot) (a : Allocated) → Given ws i spot → allocated-paper a ≡ paper 0 (handle (spot .segment) (spot .index .0) ∷ [])
+      → allocated-paper a ≡ paper 0 (handle (given-segment ws (class-of n)) (given-index ws (class-of n)) ∷ [])
+  told-is spot a given told =
+      told
+      ∙ ap (λ (h : ℕ). paper 0 (h ∷ [])) (ap₂ handle (given .segment ∙ ap (given-segment ws) (s .class)) (given .index ∙ ap (given-index ws) (s .class)))
 
   -- an untaken block of the class's own segments
   module _ {spot : Spot} (is : found ≡ Here spot) where
@@ -97,11 +100,11 @@ module _ {ws : List ℕ} {n r i : ℕ} {found : Found} (s : Searched ws n r i fo
       omega (arith, here .1 .index, here-index ws facts i class-is (here .0), blocks-most i class-is),
     )
 
-    pub given-here : (tag : ℕ) (g : Handle) {ws' : List ℕ} → g .0 ≡ handle (spot .segment) (spot .index .0) → ws' ≡ allocated ws n r tag
-        → Allocate ws n r tag (Block g) ws'
-    given-here tag g {ws'} eg ew =
-        given-outcome ws n r (s .allowed) tag g ws' (or-left (class-has-untaken ws (class-of n)) (has-pool ws) (same-has ∙ here .0))
-        (handle-is spot g (here .1) eg) ew
+    pub given-here : (tag : ℕ) (a : Allocated) {ws' : List ℕ} → allocated-paper a ≡ paper 0 (handle (spot .segment) (spot .index .0) ∷ [])
+        → ws' ≡ allocated ws n r tag → Allocate ws n r tag a ws'
+    given-here tag a {ws'} told ew =
+        given-outcome ws n r (s .allowed) tag a ws' (or-left (class-has-untaken ws (class-of n)) (has-pool ws) (same-has ∙ here .0))
+        (told-is spot a (here .1) told) ew
 
   -- block 0 of a pool segment that joins
   module _ {spot : Spot} (is : found ≡ Joins spot) where
@@ -125,11 +128,11 @@ module _ {ws : List ℕ} {n r i : ℕ} {found : Found} (s : Searched ws n r i fo
       omega (arith, joins .2 .index, pool-index ws facts i class-is (joins .0) (joins .1), blocks-most i class-is),
     )
 
-    pub given-joining : (tag : ℕ) (g : Handle) {ws' : List ℕ} → g .0 ≡ handle (spot .segment) (spot .index .0) → ws' ≡ allocated ws n r tag
-        → Allocate ws n r tag (Block g) ws'
-    given-joining tag g {ws'} eg ew =
-        given-outcome ws n r (s .allowed) tag g ws' (or-right (class-has-untaken ws (class-of n)) (has-pool ws) (joins .1))
-        (handle-is spot g (joins .2) eg) ew
+    pub given-joining : (tag : ℕ) (a : Allocated) {ws' : List ℕ} → allocated-paper a ≡ paper 0 (handle (spot .segment) (spot .index .0) ∷ [])
+        → ws' ≡ allocated ws n r tag → Allocate ws n r tag a ws'
+    given-joining tag a {ws'} told ew =
+        given-outcome ws n r (s .allowed) tag a ws' (or-right (class-has-untaken ws (class-of n)) (has-pool ws) (joins .1))
+        (told-is spot a (joins .2) told) ew
 
   -- neither
   pub none-given : (tag : ℕ) → found ≡ NoRoom → Allocate ws n r tag no-room ws

@@ -6,7 +6,6 @@
 // first free one of the segment behind it, which is not full; and where there is no segment behind it, the
 // lowest-numbered pool segment joins. proofs/FirstLaws says so of every sound arena.
 
-pub mod allocate;
 pub mod find;
 pub mod give;
 pub mod pool;

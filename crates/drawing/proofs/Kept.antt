@@ -1,26 +1,26 @@
 -- A granted write keeps the arena sound, takes and frees no block, and leaves every other block's words. Assumes nothing.
 use Prim.Native.Nat.{ℕ, _+_, _-_, _<_}
 use native.Mathlib.Omega.{arith}
-use mathlib.Core.Bool.{Bool, true, false, not, cond}
+use mathlib.Core.Bool.{Bool, true, false, not}
 use mathlib.Core.List.{List, [], _∷_}
 use mathlib.Core.Logic.{_≢_}
 use mathlib.Core.Path.{_≡_, refl, sym, ap, _∙_}
-use lib.Dec.{eqb, ltb}
+use lib.Dec.{ltb}
 use borrow.Author.Tests.{ltb-true}
 use Rattle.model.specs.Word.{put}
 use Rattle.model.specs.Layout.{handle, segment-of, index-of}
 use Rattle.model.specs.View.{block-of, block, n-in, r-in}
 use Rattle.model.specs.Standing.{is-block, is-taken, none-or-taken, taken-count}
 use Rattle.model.specs.Sound.{sound}
-use Rattle.model.specs.Numbers.{Paper, refuse, written-paper}
-use Rattle.model.specs.Calls.{Outcome, WriteReference, WritePlain}
+use Rattle.model.specs.Numbers.{refuse, written-paper}
+use Rattle.model.specs.Calls.{WriteReference, WritePlain}
 use Rattle.model.specs.declared.Written.{Written}
-use Rattle.model.specs.declared.Written.the-variants.{Done}
 use Rattle.words.proofs.HandleLaws.{handle-back}
 use Rattle.soundness.proofs.Facts.{block-facts, sound-facts, facts-sound}
 use Rattle.soundness.proofs.Taken.{handle-facts}
 use Rattle.soundness.proofs.Views.{same-is-taken, same-taken-count}
 use Rattle.soundness.proofs.Writes as writes
+use Rattle.drawing.proofs.Outcomes.{number-is, words-granted}
 
 -- word o of block h becomes v, and nothing else changes
 pub record Kept (ws : List ℕ) (h o v : ℕ) (ws' : List ℕ) : Type 0 where
@@ -42,40 +42,31 @@ kept ws h o v ws' some w = record {
       (λ es ek. apart (ap (λ (t : ℕ). handle t k) es ∙ ap (handle (segment-of h)) ek ∙ handle-back h some));
 }
 
--- ---- a granted answer: no refusal applied, and the words are those of the grant
-
 passed : (e x : ℕ) (t : Bool) → e ≢ 0 → refuse e (not t) x ≡ 0 → (t ≡ true) × (x ≡ 0)
 passed e x true some none = (refl, none)
 passed e x false some none = absurd (some none)
 
-module _ {e : ℕ} {after ws ws' : List ℕ} (o : Outcome e [] after ws (written-paper Done) ws') where
-  no-refusal : e ≡ 0
-  no-refusal = sym (ap (λ (p : Paper). p .number) (o .answered))
-
-  granted-words : ws' ≡ after
-  granted-words = o .words ∙ ap (λ (n : ℕ). cond (eqb n 0) after ws) no-refusal
-
 -- ---- the two writes
 
-module _ (ws : List ℕ) (h f v : ℕ) (ws' : List ℕ) where
-  pub kept-reference : WriteReference ws h f v Done ws' → Kept ws h (1 + f) v ws'
+module _ (ws : List ℕ) (h f v : ℕ) (a : Written) (ws' : List ℕ) (granted : written-paper a .number ≡ 0) where
+  pub kept-reference : WriteReference ws h f v a ws' → Kept ws h (1 + f) v ws'
   kept-reference o =
       let is-field : Bool = ltb f (r-in (block ws h)) in
       let is-value : Bool = none-or-taken ws v in
-      let two = passed 2 (refuse 5 (not (is-taken ws h)) (refuse 6 (not is-field) (refuse 7 (not is-value) 0))) (sound ws) (λ z. omega arith) (no-refusal o) in
+      let two = passed 2 (refuse 5 (not (is-taken ws h)) (refuse 6 (not is-field) (refuse 7 (not is-value) 0))) (sound ws) (λ z. omega arith) (sym (number-is o) ∙ granted) in
       let five = passed 5 (refuse 6 (not is-field) (refuse 7 (not is-value) 0)) (is-taken ws h) (λ z. omega arith) (two .1) in
       let six = passed 6 (refuse 7 (not is-value) 0) is-field (λ z. omega arith) (five .1) in
       let seven = passed 7 0 is-value (λ z. omega arith) (six .1) in
-      rw (granted-words o)
+      rw (words-granted o granted)
       (kept ws h (1 + f) v _ (handle-facts ws h (five .0) .positive)
       (writes.written-reference ws (sound-facts ws (two .0)) h (five .0) f v (ltb-true f (r-in (block ws h)) (six .0)) (seven .0)))
 
-  pub kept-plain : WritePlain ws h f v Done ws' → Kept ws h (1 + r-in (block ws h) + f) v ws'
+  pub kept-plain : WritePlain ws h f v a ws' → Kept ws h (1 + r-in (block ws h) + f) v ws'
   kept-plain o =
       let is-field : Bool = ltb f (n-in (block ws h) - r-in (block ws h)) in
-      let two = passed 2 (refuse 5 (not (is-taken ws h)) (refuse 6 (not is-field) 0)) (sound ws) (λ z. omega arith) (no-refusal o) in
+      let two = passed 2 (refuse 5 (not (is-taken ws h)) (refuse 6 (not is-field) 0)) (sound ws) (λ z. omega arith) (sym (number-is o) ∙ granted) in
       let five = passed 5 (refuse 6 (not is-field) 0) (is-taken ws h) (λ z. omega arith) (two .1) in
       let six = passed 6 0 is-field (λ z. omega arith) (five .1) in
-      rw (granted-words o)
+      rw (words-granted o granted)
       (kept ws h (1 + r-in (block ws h) + f) v _ (handle-facts ws h (five .0) .positive)
       (writes.written-plain ws (sound-facts ws (two .0)) h (five .0) f v (ltb-true f (n-in (block ws h) - r-in (block ws h)) (six .0))))

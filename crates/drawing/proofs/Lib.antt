@@ -1,6 +1,5 @@
 pub mod Collecting
 pub mod FieldLaws
-pub mod History
 pub mod Kept
 pub mod LookLaws
 pub mod Made
@@ -10,6 +9,7 @@ pub mod PutLaws
 pub mod RefusalNumbers
 pub mod Refusals
 pub mod RoomLaws
+pub mod Runs
 pub mod Sizes
 pub mod StandingLaws
 pub mod Unique

@@ -1,9 +1,10 @@
--- A made arena is sound, and no block of it is taken. Assumes nothing.
+-- A made arena is sound, no block of it is taken, and it grants any allocation of a right shape. Assumes nothing.
 use Prim.Native.Nat.{ℕ, zero, suc, _+_, _-_, _*_, _≤_, _<_}
 use native.Mathlib.Omega.{arith}
 use native.Mathlib.Decide.{decLt}
 use mathlib.Core.Path.{_≡_, refl, sym, ap, _∙_}
-use mathlib.Core.Bool.{Bool, true, false, true≢false}
+use mathlib.Core.Logic.{_⊎_, inl, inr}
+use mathlib.Core.Bool.{Bool, true, false, or-true}
 use mathlib.Core.List.{List, _∷_}
 use lib.ListN.{length, getD, replicate, length-replicate, getD-replicate, List·getD-eq-default}
 use lib.Seq.{ext-getD}
@@ -14,14 +15,16 @@ use Rattle.model.specs.Layout.{arena-length, arena-head, place-at, record-at}
 use Rattle.model.specs.View.{segments, place-rank, place-index, record-of, class, members}
 use Rattle.model.specs.Standing.{in-pool, is-taken, taken-count}
 use Rattle.model.specs.Sound.{sound}
-use Rattle.model.specs.Calls.{fresh}
+use Rattle.model.specs.Calls.{fresh, has-pool, allocate-refusal}
 use Rattle.laws.proofs.Below.{count-below-none}
 use Rattle.words.proofs.ClassLaws.{class-bounds}
 use Rattle.words.proofs.FieldLaws.{arena-head-segments, arena-head-unnamed}
 use lib.Dec.{eqb}
-use borrow.Author.Tests.{ne-eqb, eqb-false}
+use borrow.Author.Tests.{ne-eqb, eqb-false, le-ltb}
 use Rattle.soundness.proofs.Facts.{Sound, Sized, Member, record-length, record-word, facts-sound, taken-block}
 use Rattle.soundness.proofs.Taken.{handle-facts}
+use Rattle.soundness.proofs.Tests.{either, never}
+use Rattle.growth.proofs.Room.{empty-pool}
 
 zeros : (n o : ℕ) → word (replicate n 0) o ≡ 0
 zeros n o = go (decLt o n)
@@ -96,3 +99,16 @@ module _ (N : ℕ) (some : 1 ≤ N) (few : N ≤ 64) where
           let b = handle-facts (fresh N) (x + 1) e .its-block in
           no-member _ (b .member)
       go x false e = refl
+
+  made-pool : has-pool (fresh N) ≡ true
+  made-pool = go (either (has-pool (fresh N)))
+    where
+      go : (has-pool (fresh N) ≡ true) ⊎ (has-pool (fresh N) ≡ false) → has-pool (fresh N) ≡ true
+      go (inl some) = some
+      go (inr none) =
+          let first : 0 < segments (fresh N) = omega (arith, made-segments) in
+          never (in-pool (fresh N) 0) (ap (λ (i : ℕ). eqb i 0) (made-class 0 first)) (empty-pool (fresh N) .0 none 0 first)
+
+  pub made-grants : (n r : ℕ) → n ≤ 1023 → r ≤ n → allocate-refusal (fresh N) n r ≡ 0
+  unfolding allocate-refusal
+  made-grants n r small within = rw (made-sound, le-ltb 1023 n small, le-ltb n r within, made-pool, or-true)

@@ -4,3 +4,4 @@ pub mod Place
 pub mod Put
 pub mod Refusal
 pub mod Rooms
+pub mod Runs

@@ -1,8 +1,8 @@
--- `allocation::allocate::allocate_sound` meets the promise of allocate: by what the search found. Assumes nothing.
+-- `drawing::allocate::allocate_sound` meets the promise of allocate: by what the search found. Assumes nothing.
 use Rattle.allocation.proofs.AllocateLaws.{search-asked, Searched, give-asked, handle-asked, given-here, joining-asked, joining-handle-asked, given-joining, none-given}
 use borrow.Author.Needs.{needs}
-use Rattle.allocation.proofs.allocate.allocate_sound.Statement.{statement}
-use Rattle.allocation.proofs.allocate.allocate_sound.Tie as tie
+use Rattle.drawing.proofs.allocate.allocate_sound.Statement.{statement}
+use Rattle.drawing.proofs.allocate.allocate_sound.Tie as tie
 
 -- what is known once the search has ended
 searched : (c : tie.After-find)
@@ -24,8 +24,8 @@ give-requires c κs =
     let arm = c .before .before in
     give-asked (searched (arm .before .before)) (arm .spot .given .1)
 
-handle-requires : tie.Need-handle-requires
-handle-requires c κs =
+given-requires : tie.Need-given-requires
+given-requires c κs =
     let arm = c .before .before .before .before .before in
     handle-asked (searched (arm .before .before)) (arm .spot .given .1)
 
@@ -37,8 +37,8 @@ give-joining-requires c κs =
     let arm = c .before .before in
     joining-asked (searched (arm .before .before)) (arm .spot2 .given .1)
 
-handle-requires-2 : tie.Need-handle-requires-2
-handle-requires-2 c κs =
+given-requires-2 : tie.Need-given-requires-2
+given-requires-2 c κs =
     let arm = c .before .before .before .before .before in
     joining-handle-asked (searched (arm .before .before)) (arm .spot2 .given .1)
 
@@ -52,7 +52,7 @@ returns : tie.Need-returns
 returns c =
     let given = c .before .before .before in
     let arm = given .before .before .before in
-    given-here (searched (arm .before .before)) (arm .spot .given .1) _ (c .handle .result) (c .handle .ensures) (given .give .ensures)
+    given-here (searched (arm .before .before)) (arm .spot .given .1) _ (c .given .result) (c .given .ensures) (given .give .ensures)
 
 same-length-2 : tie.Need-same-length-2
 same-length-2 c = search needs
@@ -61,7 +61,7 @@ returns-2 : tie.Need-returns-2
 returns-2 c =
     let given = c .before .before .before in
     let arm = given .before .before .before in
-    given-joining (searched (arm .before .before)) (arm .spot2 .given .1) _ (c .handle2 .result) (c .handle2 .ensures) (given .give-joining .ensures)
+    given-joining (searched (arm .before .before)) (arm .spot2 .given .1) _ (c .given2 .result) (c .given2 .ensures) (given .give-joining .ensures)
 
 same-length-3 : tie.Need-same-length-3
 same-length-3 c = search needs
@@ -77,10 +77,10 @@ allocate-sound-spec =
     find-requires
     enum-known-spot
     give-requires
-    handle-requires
+    given-requires
     enum-known-spot-2
     give-joining-requires
-    handle-requires-2
+    given-requires-2
     enum-told
     same-length
     returns
