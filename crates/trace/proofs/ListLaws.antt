@@ -14,9 +14,10 @@ use lib.Seq.{take-suc-set, take-set-le, drop-set-lt, length-take-le, drop-drop}
 use Rattle.model.specs.Below.{one-if}
 use Rattle.model.specs.Ways.{listed}
 use Rattle.ways.proofs.Put.{put-on, put-all, put-all-next, put-all-length}
-use Rattle.trace.specs.Marks.{Marked, Mark, none-or-marked}
+use Rattle.arena.specs.Rows.{row-bit, Marked}
+use Rattle.trace.specs.Marks.{Mark}
 use Rattle.trace.specs.List.{On, PutRoot, Kept}
-use Rattle.trace.proofs.MarkLaws.{mark-new, mark-put-on, marked-known}
+use Rattle.trace.proofs.MarkLaws.{mark-new, mark-put-on}
 
 -- ---- one handle
 
@@ -96,7 +97,7 @@ module _ (N : ℕ) (roots list : List ℕ) (c : ℕ) (list' marks' : List ℕ) (
   longer = rw one-root (put-all-length (put-all [] (take p roots)) (getD roots p 0 ∷ []))
 
   -- there is room for a root that is new
-  pub root-room : length (put-all [] (take (p + 1) roots)) ≤ length list' → none-or-marked marks' (getD roots p 0) ≡ false → c < length list'
+  pub root-room : length (put-all [] (take (p + 1) roots)) ≤ length list' → row-bit marks' (getD roots p 0) ≡ false → c < length list'
   root-room room e =
       omega
       (arith, room, on-length N (put-all [] (take p roots)) list c list' marks' o, ap length (one-root ∙ new), length-append L (h ∷ []))
@@ -108,7 +109,7 @@ module _ (N : ℕ) (roots list : List ℕ) (c : ℕ) (list' marks' : List ℕ) (
       h = getD roots p 0
 
       new : put-on L h ≡ L ++ (h ∷ [])
-      new = put-on-new L h 1 (ap (λ (t : Bool). one-if (not t)) (sym (sym (marked-known (o .marks) h small) ∙ e))) refl
+      new = put-on-new L h 1 (ap (λ (t : Bool). one-if (not t)) (sym (sym (o .marks .at h small) ∙ e))) refl
 
   -- and it is put on
   pub root-on : {c' : ℕ} {list'' marks'' : List ℕ} → PutRoot (getD roots p 0) list' c marks' c' list'' marks'' →

@@ -26,7 +26,7 @@ use Rattle.ways.proofs.Put.{put-all, put-all-from, put-all-blocks, put-all-dist
 use Rattle.ways.proofs.Trace.{Inv, fields, start, traced}
 use Rattle.ways.proofs.Run.{gathered, advance-run}
 use Rattle.ways.proofs.Arena.{references, drawing-bounded, fields-of-taken, taken-position, taken-count-most}
-use Rattle.trace.specs.Marks.{Marked}
+use Rattle.arena.specs.Rows.{Marked}
 use Rattle.trace.specs.Gather.{references-of, Queued, Gathered}
 use Rattle.trace.specs.List.{On, Roots, Handles, Kept}
 use Rattle.trace.specs.Trace.{Traceable, Traced, Listed, Turn, Turned}
@@ -140,10 +140,7 @@ module _ {ws : List ℕ} {N : ℕ} {list : List ℕ} {head tail : ℕ} {marks ro
     pub turn-handles : Handles row' end marks
     turn-handles = record {
       within = g .fits;
-      inside = λ k l. record {
-        some = omega (arith, sound-facts ws (t .right) .size .some, t .all, t .long);
-        inside = omega (arith, gathered-small k l, t .long);
-      };
+      inside = λ k l. record { inside = omega (arith, gathered-small k l, t .long) };
     }
 
     -- what is gathered, as the theory has it
@@ -209,7 +206,6 @@ module _ {ws roots list marks : List ℕ} (a : Traceable ws roots list marks) {N
 
   pub trace-roots : Roots N roots list marks
   trace-roots = record {
-    some = omega (arith, sound-facts ws (a .right) .size .some, all);
     long = omega (arith, a .row, all);
     inside = λ p l. omega (arith, known-small ws (getD roots p 0) (all-known p l), all);
     room = λ p l. omega (arith, listed-room ws _ (listed-more ws [] (take p roots) (listed-none ws) (some-known p l)), a .room);
@@ -237,7 +233,7 @@ module _ {ws roots list : List ℕ} {N head tail : ℕ} {list' marks' : List ℕ
   so-far-head = omega (arith, s .inv .head, long)
 
   -- a turn
-  pub so-far-turn : (row : List ℕ) → head < tail → taken-count ws ≤ length list' → 64 * N ≤ length marks' → 1023 ≤ length row →
+  pub so-far-turn : (row : List ℕ) → head < tail → taken-count ws ≤ length list' → 1 + 64 * N ≤ length marks' → 1023 ≤ length row →
       Turn ws N list' head tail marks' row
   so-far-turn row l room marks-long row-long = record {
     right = right;

@@ -49,8 +49,8 @@ fn turn(
     }
 }
 
-// Lists the reachable blocks in the first words of the list, and says how many there are. The marks are
-// 64 words for each segment, whatever they hold; afterwards they are those of the listed blocks.
+// Lists the reachable blocks in the first words of the list, and says how many there are. The marks may
+// hold anything before; afterwards they are those of the listed blocks.
 pub fn trace(arena: &[u32], roots: &[u32], list: &mut [u32], marks: &mut [u32]) -> u32
     requires { ⌜ Traceable (now arena) (now roots) (now list) (now marks) ⌝ }
     ensures { λ r. ⌜ Traced (now (arena .entry)) (now (roots .entry)) (now (list .entry)) r (now (list .exit)) (now (marks .exit)) ⌝ }

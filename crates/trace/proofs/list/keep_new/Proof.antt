@@ -41,7 +41,7 @@ mark-requires c κs =
     let s = c .before .before .before .before .before .before in
     let l = c .before .before .before .loop in
     let inside = s .pre .inside (l .k) (omega arith) in
-    record { some = omega arith; inside = omega (arith, l .inv .3 (l .k) (le-refl (l .k))) }
+    record { inside = omega (arith, l .inv .3 (l .k) (le-refl (l .k))) }
 
 wide-requires : tie.Need-wide-requires Inv-loop μ-loop
 wide-requires c κs = search needs
