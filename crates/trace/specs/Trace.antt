@@ -17,12 +17,14 @@ use Rattle.arena.specs.Rows.{Marked}
 use Rattle.trace.specs.Gather.{references-of}
 use Rattle.trace.specs.List.{On}
 
--- a sound arena, roots that are each 0 or a taken block, a list with room for every taken block, and a row with a mark for every handle
-pub record Traceable (ws roots list marks : List ℕ) : Type 0 where
+-- a sound arena, roots that are each 0 or a taken block, a list with room for every taken block, a row with a mark for every handle, and how many
+-- blocks are taken
+pub record Traceable (ws roots list marks : List ℕ) (most : ℕ) : Type 0 where
   pub right : sound ws ≡ true
   pub right-roots : all-below (length roots) (λ p. none-or-taken ws (getD roots p 0)) ≡ true
   pub room : taken-count ws ≤ length list
   pub row : 1 + 64 * segments ws ≤ length marks
+  pub all : most ≡ taken-count ws
 
 -- "The first c words of the work list hold their handles in the order of demand 3, the later ones are unchanged." And exactly these are marked.
 pub record Traced (ws roots list : List ℕ) (c : ℕ) (list' marks' : List ℕ) : Type 0 where
