@@ -4,14 +4,14 @@
 use Prim.Native.Nat.{ℕ, zero, suc, _+_, _-_, _*_, _≤_, _<_}
 use mathlib.Core.Path.{_≡_, refl, sym, ap, ap₂, _∙_, subst}
 use mathlib.Core.Logic.{_⊎_, inl, inr}
-use mathlib.Core.Bool.{true, false, false≢true}
+use mathlib.Core.Bool.{Bool, true, false, _&&_, true≢false, false≢true}
 use mathlib.Core.List.{List, [], _++_, append-assoc}
 use native.Mathlib.Omega.{arith}
 use native.Mathlib.Decide.{decLt}
-use lib.Dec.{eqb}
+use lib.Dec.{eqb, ltb}
 use lib.ListN.{length, getD, take, drop, length-append, length-drop, List·getD-append}
-use lib.Seq.{getD-take, getD-drop, getD-append-add, length-take-le, take-at}
-use borrow.Author.Tests.{eqb-true}
+use lib.Seq.{getD-take, getD-drop, getD-append-add, length-take-le, take-all, take-at}
+use borrow.Author.Tests.{eqb-true, ltb-true, ltb-false}
 use Rattle.model.specs.Below.{lists-below}
 use Rattle.model.specs.Word.{put}
 use Rattle.model.specs.View.{segments, block, r-in, reference-in}
@@ -20,13 +20,13 @@ use Rattle.model.specs.Sound.{sound}
 use Rattle.model.specs.Ways.{In, drawing}
 use Rattle.laws.proofs.Below.{all-below-at, count-below-le, lists-below-ext, length-words-below, word-words-below}
 use Rattle.laws.proofs.Splice.{drop-put, length-put}
-use Rattle.soundness.proofs.Tests.{or-cases}
+use Rattle.soundness.proofs.Tests.{or-cases, and-left}
 use Rattle.soundness.proofs.Facts.{sound-facts}
-use Rattle.ways.proofs.Put.{put-all, put-all-from, put-all-blocks, put-all-distinct, put-all-length}
+use Rattle.ways.proofs.Put.{put-all, put-all-from, put-all-blocks, put-all-distinct, put-all-length, put-all-take}
 use Rattle.ways.proofs.Trace.{Inv, fields, start, traced}
 use Rattle.ways.proofs.Run.{gathered, advance-run}
 use Rattle.ways.proofs.Arena.{references, drawing-bounded, fields-of-taken, taken-position, taken-count-most}
-use Rattle.trace.specs.Marks.{Marked}
+use Rattle.arena.specs.Rows.{Marked}
 use Rattle.trace.specs.Gather.{references-of, Queued, Gathered}
 use Rattle.trace.specs.List.{On, Roots, Handles, Kept}
 use Rattle.trace.specs.Trace.{Traceable, Traced, Listed, Turn, Turned}
@@ -101,6 +101,11 @@ listed-more ws L hs a known = record { distinct = put-all-distinct L hs (a .dist
 pub listed-room : (ws L : List ℕ) → Listed ws L → length L ≤ taken-count ws
 listed-room ws L a = taken-count-most ws L (a .distinct) (a .taken)
 
+-- a list of all taken blocks stays as it is
+listed-all : (ws L hs : List ℕ) → Listed ws L → Known ws hs → taken-count ws ≤ length L → put-all L hs ≡ L
+listed-all ws L hs a known all =
+    sym (take-all (length L) (put-all L hs) (omega (arith, listed-room ws _ (listed-more ws L hs a known)))) ∙ put-all-take L hs
+
 -- ---- one turn
 
 -- the queue, as a part of the list
@@ -140,10 +145,7 @@ module _ {ws : List ℕ} {N : ℕ} {list : List ℕ} {head tail : ℕ} {marks ro
     pub turn-handles : Handles row' end marks
     turn-handles = record {
       within = g .fits;
-      inside = λ k l. record {
-        some = omega (arith, sound-facts ws (t .right) .size .some, t .all, t .long);
-        inside = omega (arith, gathered-small k l, t .long);
-      };
+      inside = λ k l. record { inside = omega (arith, gathered-small k l, t .long) };
     }
 
     -- what is gathered, as the theory has it
@@ -191,6 +193,18 @@ module _ {ws : List ℕ} {N : ℕ} {list : List ℕ} {head tail : ℕ} {marks ro
 
 -- ---- the whole
 
+-- what `goes_on` tells
+pub went-on : (head tail most : ℕ) (t : Bool) → t ≡ (ltb head tail && ltb tail most) → t ≡ true → head < tail
+went-on head tail most t e y = ltb-true head tail (and-left (ltb head tail) (ltb tail most) (sym e ∙ y))
+
+pub ended : (head tail most : ℕ) (t : Bool) → t ≡ (ltb head tail && ltb tail most) → t ≡ false → (tail ≤ head) ⊎ (most ≤ tail)
+ended head tail most t e n = go (ltb head tail) refl (ltb tail most) refl (sym e ∙ n)
+  where
+    go : (a : Bool) → ltb head tail ≡ a → (b : Bool) → ltb tail most ≡ b → (a && b) ≡ false → (tail ≤ head) ⊎ (most ≤ tail)
+    go true p true q z = absurd (true≢false z)
+    go true p false q z = inr (ltb-false tail most q)
+    go false p b q z = inl (ltb-false head tail p)
+
 -- the list so far, with the head of the queue
 pub record SoFar (ws roots list : List ℕ) (N head tail : ℕ) (list' marks' : List ℕ) : Type 0 where
   pub all : N ≡ segments ws
@@ -198,7 +212,7 @@ pub record SoFar (ws roots list : List ℕ) (N head tail : ℕ) (list' marks' : 
   pub its-list : Listed ws (take tail list')
   pub inv : Inv (drawing ws roots) (take tail list') head
 
-module _ {ws roots list marks : List ℕ} (a : Traceable ws roots list marks) {N : ℕ} (all : N ≡ segments ws) where
+module _ {ws roots list marks : List ℕ} {most : ℕ} (a : Traceable ws roots list marks most) {N : ℕ} (all : N ≡ segments ws) where
   all-known : Known ws roots
   all-known = all-below-at (length roots) (λ p. none-or-taken ws (getD roots p 0)) (a .right-roots)
 
@@ -209,7 +223,6 @@ module _ {ws roots list marks : List ℕ} (a : Traceable ws roots list marks) {N
 
   pub trace-roots : Roots N roots list marks
   trace-roots = record {
-    some = omega (arith, sound-facts ws (a .right) .size .some, all);
     long = omega (arith, a .row, all);
     inside = λ p l. omega (arith, known-small ws (getD roots p 0) (all-known p l), all);
     room = λ p l. omega (arith, listed-room ws _ (listed-more ws [] (take p roots) (listed-none ws) (some-known p l)), a .room);
@@ -227,17 +240,19 @@ module _ {ws roots list : List ℕ} {N head tail : ℕ} {list' marks' : List ℕ
   long : length (take tail list') ≡ tail
   long = length-take-le tail list' (s .on .within)
 
+  pub so-far-most : tail ≤ taken-count ws
+  so-far-most = omega (arith, long, listed-room ws (take tail list') (s .its-list))
+
   pub so-far-tail : tail ≤ 131072
   unfolding taken-count
   so-far-tail =
-      let room = listed-room ws (take tail list') (s .its-list) in
-      omega (arith, long, room, count-below-le (2048 * segments ws) (λ x. is-taken ws (x + 1)), sound-facts ws right .size .few)
+      omega (arith, so-far-most, count-below-le (2048 * segments ws) (λ x. is-taken ws (x + 1)), sound-facts ws right .size .few)
 
   pub so-far-head : head ≤ tail
   so-far-head = omega (arith, s .inv .head, long)
 
   -- a turn
-  pub so-far-turn : (row : List ℕ) → head < tail → taken-count ws ≤ length list' → 64 * N ≤ length marks' → 1023 ≤ length row →
+  pub so-far-turn : (row : List ℕ) → head < tail → taken-count ws ≤ length list' → 1 + 64 * N ≤ length marks' → 1023 ≤ length row →
       Turn ws N list' head tail marks' row
   so-far-turn row l room marks-long row-long = record {
     right = right;
@@ -256,17 +271,32 @@ module _ {ws roots list : List ℕ} {N head tail : ℕ} {list' marks' : List ℕ
       let hs : List ℕ = gathered (references-of ws) (take tail list') head (head' - head) in
       omega (arith, long, put-all-length (take tail list') hs, on-length N (put-all (take tail list') hs) list' tail' list'' marks'' (t .on))
 
+  -- the references of the n blocks from the head on, put on
+  module _ (n : ℕ) (few : head + n ≤ tail) where
+    abbrev more : List ℕ
+    more = gathered (references-of ws) (take tail list') head n
+
+    taken : (i : ℕ) → i < n → is-taken ws (getD (take tail list') (head + i) 0) ≡ true
+    taken i l = s .its-list .taken (head + i) (omega (arith, long))
+
+    more-known : Known ws more
+    more-known = references-known ws (λ i. getD (take tail list') (head + i) 0) n right taken
+
+    more-inv : Inv (drawing ws roots) (put-all (take tail list') more) (head + n)
+    more-inv =
+        subst (λ (hs : List ℕ). Inv (drawing ws roots) (put-all (take tail list') hs) (head + n))
+        (lists-below-ext n (λ i. fields (drawing ws roots) (references ws) (getD (take tail list') (head + i) 0)) (λ i. references-of ws (getD (take tail list') (head + i) 0))
+        (λ i l. fields-of-taken ws roots (getD (take tail list') (head + i) 0) (taken i l)))
+        (advance-run (drawing-bounded ws roots) (s .inv) n (omega (arith, long)))
+
   pub so-far-on : {head' tail' : ℕ} {list'' marks'' : List ℕ} → Turned ws N list' head tail head' tail' list'' marks'' →
       SoFar ws roots list N head' tail' list'' marks''
   so-far-on {head'} {tail'} {list''} {marks''} t = record {
     all = s .all;
     on = subst (λ (M : List ℕ). On N M list tail' list'' marks'') (sym (t .on .first))
-        (on-then N L (put-all L hs) list tail list' marks' tail' list'' marks'' (put-all-length L hs) (s .on) (t .on));
-    its-list = rw (t .on .first) (listed-more ws L hs (s .its-list) (references-known ws (λ i. getD L (head + i) 0) n right taken));
-    inv = rw (t .on .first)
-        (subst (λ (q : ℕ). Inv (drawing ws roots) (put-all L hs) q) there
-        (subst (λ (xs : List ℕ). Inv (drawing ws roots) (put-all L xs) (head + n)) refs
-        (advance-run (drawing-bounded ws roots) (s .inv) n (omega (arith, long, t .more, t .within)))));
+        (on-then N L (put-all L (more n few)) list tail list' marks' tail' list'' marks'' (put-all-length L (more n few)) (s .on) (t .on));
+    its-list = rw (t .on .first) (listed-more ws L (more n few) (s .its-list) (more-known n few));
+    inv = rw (t .on .first) (subst (λ (q : ℕ). Inv (drawing ws roots) (put-all L (more n few)) q) there (more-inv n few));
   }
     where
       L : List ℕ
@@ -275,33 +305,35 @@ module _ {ws roots list : List ℕ} {N head tail : ℕ} {list' marks' : List ℕ
       n : ℕ
       n = head' - head
 
-      hs : List ℕ
-      hs = gathered (references-of ws) L head n
+      few : head + n ≤ tail
+      few = omega (arith, t .more, t .within)
 
       there : head + n ≡ head'
       there = omega (arith, t .more)
 
-      taken : (i : ℕ) → i < n → is-taken ws (getD L (head + i) 0) ≡ true
-      taken i l = s .its-list .taken (head + i) (omega (arith, long, t .more, t .within))
-
-      refs : gathered (fields (drawing ws roots) (references ws)) L head n ≡ hs
-      refs =
-          lists-below-ext n (λ i. fields (drawing ws roots) (references ws) (getD L (head + i) 0)) (λ i. references-of ws (getD L (head + i) 0))
-          (λ i l. fields-of-taken ws roots (getD L (head + i) 0) (taken i l))
+  -- the head may go on to the end if it is there already, or if every taken block is listed
+  so-far-whole : (tail ≤ head) ⊎ (taken-count ws ≤ tail) → Inv (drawing ws roots) (take tail list') (length (take tail list'))
+  so-far-whole (inl end) =
+      let at-end : head ≡ length (take tail list') = omega (arith, s .inv .head, long) in
+      subst (λ (q : ℕ). Inv (drawing ws roots) (take tail list') q) at-end (s .inv)
+  so-far-whole (inr all) =
+      let n : ℕ = tail - head in
+      let few : head + n ≤ tail = omega (arith, s .inv .head, long) in
+      let at-end : head + n ≡ length (take tail list') = omega (arith, s .inv .head, long) in
+      let same : put-all (take tail list') (more n few) ≡ take tail list' = listed-all ws (take tail list') (more n few) (s .its-list) (more-known n few) (omega (arith, long)) in
+      subst (λ (M : List ℕ). Inv (drawing ws roots) M (length (take tail list'))) same
+      (subst (λ (q : ℕ). Inv (drawing ws roots) (put-all (take tail list') (more n few)) q) at-end (more-inv n few))
 
   -- the end, for the list as it was before the roots were put on
-  pub so-far-done : {before : List ℕ} {c : ℕ} {marks : List ℕ} → On N (put-all [] roots) before c list marks → c ≤ tail → tail ≤ head →
+  pub so-far-done : {before : List ℕ} {c : ℕ} {marks : List ℕ} → On N (put-all [] roots) before c list marks → c ≤ tail → (tail ≤ head) ⊎ (taken-count ws ≤ tail) →
       length list' ≡ length before → Traced ws roots before tail list' marks'
   so-far-done {before} {c} {marks} o l end same = record {
     same-length = same;
     within = omega (arith, s .on .within);
-    listing = traced (drawing-bounded ws roots) (subst (λ (q : ℕ). Inv (drawing ws roots) (take tail list') q) at-end (s .inv));
+    listing = traced (drawing-bounded ws roots) (so-far-whole end);
     later = on-then N (put-all [] roots) (take tail list') before c list marks tail list' marks' longer o (s .on) .later;
     marked = subst (λ (M : ℕ). Marked M marks' (take tail list')) (s .all) (s .on .marks);
   }
     where
-      at-end : head ≡ length (take tail list')
-      at-end = omega (arith, s .inv .head, long)
-
       longer : length (put-all [] roots) ≤ length (take tail list')
       longer = omega (arith, on-length N (put-all [] roots) before c list marks o, long)

@@ -1,12 +1,13 @@
 -- The list of a trace: its first words are the handles that have been put on, each block once, and these are marked.
 -- Assumes nothing.
-use Prim.Native.Nat.{ℕ, _*_, _<_, _≤_}
+use Prim.Native.Nat.{ℕ, _+_, _*_, _<_, _≤_}
 use mathlib.Core.Path.{_≡_}
-use mathlib.Core.Bool.{false}
-use mathlib.Core.List.{List, [], _++_}
+use mathlib.Core.Bool.{false, cond}
+use mathlib.Core.List.{List, [], _∷_, _++_}
 use lib.ListN.{length, getD, take, drop}
 use Rattle.ways.proofs.Put.{put-on, put-all}
-use Rattle.trace.specs.Marks.{Marked, Row, none-or-marked}
+use Rattle.arena.specs.Rows.{row-bit, Marked}
+use Rattle.trace.specs.Marks.{Row}
 
 -- the first c words of the list are L, the later ones are as before, and the marks are those of L
 pub record On (N : ℕ) (L list : List ℕ) (c : ℕ) (list' marks' : List ℕ) : Type 0 where
@@ -20,7 +21,7 @@ pub record On (N : ℕ) (L list : List ℕ) (c : ℕ) (list' marks' : List ℕ) 
 pub record Root (h : ℕ) (list : List ℕ) (c : ℕ) (marks : List ℕ) : Type 0 where
   pub row : Row marks h
   pub within : c ≤ length list
-  pub room : none-or-marked marks h ≡ false → c < length list
+  pub room : row-bit marks h ≡ false → c < length list
 
 abbrev pub PutRoot : ℕ → List ℕ → ℕ → List ℕ → ℕ → List ℕ → List ℕ → Type 0
 PutRoot h list c marks c' list' marks' =
@@ -29,8 +30,7 @@ PutRoot h list c marks c' list' marks' =
 -- ---- all roots, in turn
 
 pub record Roots (N : ℕ) (roots list marks : List ℕ) : Type 0 where
-  pub some : 0 < N
-  pub long : 64 * N ≤ length marks
+  pub long : 1 + 64 * N ≤ length marks
   pub inside : (p : ℕ) → p < length roots → getD roots p 0 ≤ 2048 * N
   pub room : (p : ℕ) → p ≤ length roots → length (put-all [] (take p roots)) ≤ length list
 
@@ -40,6 +40,16 @@ pub record Roots (N : ℕ) (roots list marks : List ℕ) : Type 0 where
 pub record Handles (row : List ℕ) (end : ℕ) (marks : List ℕ) : Type 0 where
   pub within : end ≤ length row
   pub inside : (k : ℕ) → k < end → Row marks (getD row k 0)
+
+-- those handles of a row that are not marked, in turn
+unfoldable pub unmarked : List ℕ → List ℕ → List ℕ
+unmarked marks [] = []
+unmarked marks (h ∷ hs) = cond (row-bit marks h) (unmarked marks hs) (h ∷ unmarked marks hs)
+
+-- of the first `end` words of a row these are left
+pub record Left (row : List ℕ) (end : ℕ) (marks : List ℕ) (left : ℕ) (row' : List ℕ) : Type 0 where
+  pub within : left ≤ end
+  pub words : take left row' ≡ unmarked marks (take end row)
 
 -- of the first `end` words of a row those are kept, in turn, that are put on the list whose blocks are marked, and they are marked
 pub record Kept (row : List ℕ) (end : ℕ) (marks : List ℕ) (kept : ℕ) (row' marks' : List ℕ) : Type 0 where

@@ -1,6 +1,6 @@
 -- The trace: what it asks, what one turn does, and what it leaves.
 -- Assumes nothing.
-use Prim.Native.Nat.{ℕ, _-_, _*_, _<_, _≤_}
+use Prim.Native.Nat.{ℕ, _+_, _-_, _*_, _<_, _≤_}
 use mathlib.Core.Path.{_≡_}
 use mathlib.Core.Bool.{true}
 use mathlib.Core.List.{List}
@@ -13,16 +13,18 @@ use Rattle.model.specs.Ways.{Listing, drawing}
 use Rattle.ways.proofs.Listed.{Distinct}
 use Rattle.ways.proofs.Put.{put-all}
 use Rattle.ways.proofs.Run.{gathered}
-use Rattle.trace.specs.Marks.{Marked}
+use Rattle.arena.specs.Rows.{Marked}
 use Rattle.trace.specs.Gather.{references-of}
 use Rattle.trace.specs.List.{On}
 
--- a sound arena, roots that are each 0 or a taken block, a list with room for every taken block, and a row with a mark for every block
-pub record Traceable (ws roots list marks : List ℕ) : Type 0 where
+-- a sound arena, roots that are each 0 or a taken block, a list with room for every taken block, a row with a mark for every handle, and how many
+-- blocks are taken
+pub record Traceable (ws roots list marks : List ℕ) (most : ℕ) : Type 0 where
   pub right : sound ws ≡ true
   pub right-roots : all-below (length roots) (λ p. none-or-taken ws (getD roots p 0)) ≡ true
   pub room : taken-count ws ≤ length list
-  pub row : 64 * segments ws ≤ length marks
+  pub row : 1 + 64 * segments ws ≤ length marks
+  pub all : most ≡ taken-count ws
 
 -- "The first c words of the work list hold their handles in the order of demand 3, the later ones are unchanged." And exactly these are marked.
 pub record Traced (ws roots list : List ℕ) (c : ℕ) (list' marks' : List ℕ) : Type 0 where
@@ -46,7 +48,7 @@ pub record Turn (ws : List ℕ) (N : ℕ) (list : List ℕ) (head tail : ℕ) (m
   pub some : head < tail
   pub within : tail ≤ length list
   pub room : taken-count ws ≤ length list
-  pub long : 64 * N ≤ length marks
+  pub long : 1 + 64 * N ≤ length marks
   pub wide : 1023 ≤ length row
   pub its-list : Listed ws (take tail list)
   pub its-marks : Marked N marks (take tail list)

@@ -1,7 +1,7 @@
 -- `trace::list::put_root` meets its contract: a root that `mark` tells is new goes on the list's end, and any other changes nothing.
 -- Assumes nothing.
 use borrow.Author.Needs.{needs}
-use Rattle.trace.specs.Marks.{none-or-marked}
+use Rattle.arena.specs.Rows.{row-bit}
 use Rattle.trace.proofs.ListLaws.{was-new, root-new, root-old}
 use Rattle.trace.proofs.list.put_root.Statement.{statement}
 use Rattle.trace.proofs.list.put_root.Tie as tie
@@ -15,7 +15,7 @@ mul-list c = search needs
 slice-write-list : tie.Need-slice-write-list
 slice-write-list c =
     let s = c .before .before .before .before .before .before .before in
-    s .pre .room (was-new (none-or-marked (s .args .marks .now) (s .args .h)) (c .before .before .before .mark .result) (c .before .before .before .mark .ensures .tells) (c .if1 .taken))
+    s .pre .room (was-new (row-bit (s .args .marks .now) (s .args .h)) (c .before .before .before .mark .result) (c .before .before .before .mark .ensures .tells) (c .if1 .taken))
 
 add-result : tie.Need-add-result
 add-result c = search needs

@@ -36,7 +36,7 @@ put-root-requires c κs =
     let l = c .before .before .before .before .loop in
     let small = s .pre .inside (l .p) (omega arith) in
     rw (c .before .before .root-at .ensures) (record {
-      row = record { some = omega arith; inside = omega arith };
+      row = record { inside = omega arith };
       within = l .inv .3 .within;
       room = root-room (s .args .n) (s .args .roots .now) (s .args .list .now) (l .c) (l .list) (l .marks) (l .p) (omega arith) small (l .inv .3)
           (omega (arith, s .pre .room (l .p + 1) (omega arith)));
