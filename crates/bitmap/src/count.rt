@@ -12,7 +12,7 @@ use words::class::blocks;
 use words::slices::wide;
 
 // The ones of some words.
-fn ones_in(ws: &[u32]) -> u32
+pub fn ones_in(ws: &[u32]) -> u32
     requires { ⌜ length (now ws) ≤ 64 ⌝ }
     ensures { λ r. ⌜ r ≡ sum-below (length (now (ws .entry))) (λ j. count-below 32 (bit (word (now (ws .entry)) j))) ⌝ }
 {

@@ -1,31 +1,22 @@
--- The counts and groups of the code are those of a collection: how many blocks of a segment are listed, which segments stay and which of them
+-- The groups of the code are those of a collection: which segments stay and which of them
 -- are full, and so the new ranks and places.
 -- Assumes nothing.
-use Prim.Native.Nat.{ℕ, _+_, _-_, _≤_, _<_}
+use Prim.Native.Nat.{ℕ, _+_, _*_, _≤_, _<_}
 use mathlib.Core.Path.{_≡_, refl, sym, ap, ap₂, _∙_}
 use mathlib.Core.Bool.{Bool, true, false, not, cond, _&&_, _||_, and-true}
 use mathlib.Core.List.{List}
 use native.Mathlib.Omega.{arith}
-use native.Mathlib.Nat.{add-sub-of-le}
-use lib.ListN.{length, getD}
 use lib.Dec.{eqb, ltb}
 use borrow.Author.Tests.{lt-ltb}
 use Rattle.model.specs.Below.{one-if, count-below}
 use Rattle.model.specs.Word.{word}
 use Rattle.model.specs.Class.{blocks}
-use Rattle.model.specs.Layout.{handle}
 use Rattle.model.specs.View.{segments, class, rank}
-use Rattle.model.specs.Standing.{in-pool, is-taken}
-use Rattle.model.specs.Ways.{listed}
+use Rattle.model.specs.Standing.{in-pool}
 use Rattle.model.specs.Calls.{live, stays, stays-full, staying, staying-full, ranked-before, new-rank, new-place}
-use Rattle.laws.proofs.Below.{count-below-ext, count-below-add, count-below-none}
-use Rattle.words.proofs.ClassLaws.{blocks-most}
-use Rattle.soundness.proofs.Tests.{not-passed}
-use Rattle.soundness.proofs.Facts.{Member, Sound, taken-block}
+use Rattle.laws.proofs.Below.{count-below-ext, count-below-le}
+use Rattle.soundness.proofs.Tests.{or-fails-left}
 use Rattle.soundness.proofs.Ranks.{count-below-parts}
-use Rattle.soundness.proofs.Taken.{is-taken-handle}
-use Rattle.ways.proofs.Listed.{listed-in}
-use Rattle.ranking.specs.Live.{live-in, Live}
 use Rattle.ranking.specs.Groups.{pool, full, rest, any-rank, group-of, Groups, ranks-in, ranked-in}
 use Rattle.ranking.specs.Heads.{rank-by}
 use Rattle.ranking.specs.Places.{place-for, place-by}
@@ -66,6 +57,11 @@ group-rest i n = go (eqb i 0 || eqb n 0) (eqb n (blocks i))
     go false true = refl
     go false false = refl
 
+-- a segment whose group is not the pool has a class
+pub group-used : (i n : ℕ) → eqb (group-of i n) pool ≡ false → eqb i 0 ≡ false
+unfolding gone
+group-used i n e = or-fails-left (eqb i 0) (eqb n 0) (sym (group-pool i n) ∙ e)
+
 not-not : (a : Bool) → not (not a) ≡ a
 not-not true = refl
 not-not false = refl
@@ -80,111 +76,107 @@ parts true false b = refl
 parts true true true = refl
 parts true true false = refl
 
--- ---- the list of a collection
+-- ---- how many they are
 
-module _ (ws L : List ℕ) (sound : Sound ws) (taken : (k : ℕ) → k < length L → is-taken ws (getD L k 0) ≡ true) where
-  -- a listed handle is that of a block
-  pub listed-inside : (s k : ℕ) → k < 2048 → listed L (handle s k) ≡ true → k < blocks (class ws s)
-  listed-inside s k l t =
-      let i = listed-in L (handle s k) t in
-      let at : is-taken ws (handle s k) ≡ true = ap (is-taken ws) (sym (i .2)) ∙ taken (i .0) (i .1) in
-      taken-block ws s k (sym (is-taken-handle ws s k l) ∙ at) .inside
+ranked-in-le : (ws groups : List ℕ) (i g q : ℕ) → ranked-in ws groups i g q ≤ segments ws
+unfolding ranked-in
+ranked-in-le ws groups i g q = count-below-le (segments ws) (ranks-in ws groups i g q)
 
-  -- so a segment's listed blocks are its listed handles
-  pub live-is : (s : ℕ) → Member ws s → live ws L s ≡ live-in L s
-  unfolding live live-in
-  live-is s member =
-      let b : ℕ = blocks (class ws s) in
-      let test : ℕ → Bool = λ k. listed L (handle s k) in
-      let most : b ≤ 2048 = blocks-most (class ws s) (sound .classed s member) in
-      omega (
-        arith,
-        ap (λ (x : ℕ). count-below x test) (sym (add-sub-of-le most)) ∙ count-below-add b (2048 - b) test,
-        count-below-none (2048 - b) (λ k. test (b + k)) (λ k u. not-passed (test (b + k)) (λ t. omega (arith, listed-inside s (b + k) (omega arith) t))),
-      )
+pub rank-by-le : (ws groups : List ℕ) (s : ℕ) → rank-by ws groups s ≤ 2 * segments ws
+unfolding rank-by
+rank-by-le ws groups s = go (eqb (word groups s) full)
+  where
+    i : ℕ
+    i = class ws s
 
-  module _ (lives groups : List ℕ) (few : segments ws ≤ 64) (counted : Live L lives) (grouped : Groups ws lives groups) where
-    pub lives-is : (s : ℕ) → s < segments ws → in-pool ws s ≡ false → word lives s ≡ live ws L s
-    lives-is s l e = counted .counted s (omega arith) ∙ sym (live-is s (record { below = l; used = e }))
+    q : ℕ
+    q = rank ws s
 
-    stays-gone : (s : ℕ) → s < segments ws → stays ws L s ≡ not (gone (class ws s) (word lives s))
-    unfolding stays gone
-    stays-gone s l = go (in-pool ws s) refl
-      where
-        go : (t : Bool) → in-pool ws s ≡ t → (not t && not (eqb (live ws L s) 0)) ≡ not (t || eqb (word lives s) 0)
-        go true e = refl
-        go false e = ap (λ (n : ℕ). not (eqb n 0)) (sym (lives-is s l e))
+    go : (t : Bool) → cond t (ranked-in ws groups i full q) (ranked-in ws groups i full any-rank + ranked-in ws groups i rest q) ≤ 2 * segments ws
+    go true = omega (arith, ranked-in-le ws groups i full q)
+    go false = omega (arith, ranked-in-le ws groups i full any-rank, ranked-in-le ws groups i rest q)
 
-    full-gone : (s : ℕ) → s < segments ws → stays-full ws L s ≡ (not (gone (class ws s) (word lives s)) && eqb (word lives s) (blocks (class ws s)))
-    unfolding stays-full stays gone
-    full-gone s l = go (in-pool ws s) refl
-      where
-        go : (t : Bool) → in-pool ws s ≡ t
-            → ((not t && not (eqb (live ws L s) 0)) && eqb (live ws L s) (blocks (class ws s))) ≡ (not (t || eqb (word lives s) 0) && eqb (word lives s) (blocks (class ws s)))
-        go true e = refl
-        go false e = ap (λ (n : ℕ). not (eqb n 0) && eqb n (blocks (class ws s))) (sym (lives-is s l e))
+-- ---- the groups of a collection whose live blocks are counted
 
-    -- the groups are those of a collection
-    pub stays-is : (s : ℕ) → s < segments ws → eqb (word groups s) pool ≡ not (stays ws L s)
-    stays-is s l =
-        ap (λ (g : ℕ). eqb g pool) (grouped .grouped s l) ∙ group-pool (class ws s) (word lives s) ∙ sym (not-not (gone (class ws s) (word lives s)))
-        ∙ ap not (sym (stays-gone s l))
+module _ (ws L lives groups : List ℕ) (lives-is : (s : ℕ) → s < segments ws → in-pool ws s ≡ false → word lives s ≡ live ws L s) (grouped : Groups ws lives groups) where
+  stays-gone : (s : ℕ) → s < segments ws → stays ws L s ≡ not (gone (class ws s) (word lives s))
+  unfolding stays gone
+  stays-gone s l = go (in-pool ws s) refl
+    where
+      go : (t : Bool) → in-pool ws s ≡ t → (not t && not (eqb (live ws L s) 0)) ≡ not (t || eqb (word lives s) 0)
+      go true e = refl
+      go false e = ap (λ (n : ℕ). not (eqb n 0)) (sym (lives-is s l e))
 
-    pub full-is : (s : ℕ) → s < segments ws → eqb (word groups s) full ≡ stays-full ws L s
-    full-is s l = ap (λ (g : ℕ). eqb g full) (grouped .grouped s l) ∙ group-full (class ws s) (word lives s) ∙ sym (full-gone s l)
+  full-gone : (s : ℕ) → s < segments ws → stays-full ws L s ≡ (not (gone (class ws s) (word lives s)) && eqb (word lives s) (blocks (class ws s)))
+  unfolding stays-full stays gone
+  full-gone s l = go (in-pool ws s) refl
+    where
+      go : (t : Bool) → in-pool ws s ≡ t
+          → ((not t && not (eqb (live ws L s) 0)) && eqb (live ws L s) (blocks (class ws s))) ≡ (not (t || eqb (word lives s) 0) && eqb (word lives s) (blocks (class ws s)))
+      go true e = refl
+      go false e = ap (λ (n : ℕ). not (eqb n 0) && eqb n (blocks (class ws s))) (sym (lives-is s l e))
 
-    pub rest-is : (s : ℕ) → s < segments ws → eqb (word groups s) rest ≡ (stays ws L s && not (stays-full ws L s))
-    rest-is s l =
-        ap (λ (g : ℕ). eqb g rest) (grouped .grouped s l) ∙ group-rest (class ws s) (word lives s)
-        ∙ and-not-and (not (gone (class ws s) (word lives s))) (eqb (word lives s) (blocks (class ws s)))
-        ∙ ap₂ (λ (a b : Bool). a && not b) (sym (stays-gone s l)) (sym (full-gone s l))
+  -- the groups are those of a collection
+  pub stays-is : (s : ℕ) → s < segments ws → eqb (word groups s) pool ≡ not (stays ws L s)
+  stays-is s l =
+      ap (λ (g : ℕ). eqb g pool) (grouped .grouped s l) ∙ group-pool (class ws s) (word lives s) ∙ sym (not-not (gone (class ws s) (word lives s)))
+      ∙ ap not (sym (stays-gone s l))
 
-    -- ---- how many are in a group, and how many of those are ranked before a segment
+  pub full-is : (s : ℕ) → s < segments ws → eqb (word groups s) full ≡ stays-full ws L s
+  full-is s l = ap (λ (g : ℕ). eqb g full) (grouped .grouped s l) ∙ group-full (class ws s) (word lives s) ∙ sym (full-gone s l)
 
-    any : (t : ℕ) → ltb (rank ws t) any-rank ≡ true
-    any t = lt-ltb (rank ws t) any-rank (omega arith)
+  pub rest-is : (s : ℕ) → s < segments ws → eqb (word groups s) rest ≡ (stays ws L s && not (stays-full ws L s))
+  rest-is s l =
+      ap (λ (g : ℕ). eqb g rest) (grouped .grouped s l) ∙ group-rest (class ws s) (word lives s)
+      ∙ and-not-and (not (gone (class ws s) (word lives s))) (eqb (word lives s) (blocks (class ws s)))
+      ∙ ap₂ (λ (a b : Bool). a && not b) (sym (stays-gone s l)) (sym (full-gone s l))
 
-    full-count : (i : ℕ) → ranked-in ws groups i full any-rank ≡ staying-full ws L i
-    unfolding ranked-in staying-full
-    full-count i =
-        count-below-ext (segments ws) (ranks-in ws groups i full any-rank) (λ s. eqb (class ws s) i && stays-full ws L s)
-        (λ t l. ap (λ (b : Bool). eqb (class ws t) i && b) (ap₂ _&&_ (full-is t l) (any t) ∙ and-true (stays-full ws L t)))
+  -- ---- how many are in a group, and how many of those are ranked before a segment
 
-    rest-count : (i : ℕ) → ranked-in ws groups i rest any-rank ≡ count-below (segments ws) (λ s. eqb (class ws s) i && (stays ws L s && not (stays-full ws L s)))
-    unfolding ranked-in
-    rest-count i =
-        count-below-ext (segments ws) (ranks-in ws groups i rest any-rank) (λ s. eqb (class ws s) i && (stays ws L s && not (stays-full ws L s)))
-        (λ t l. ap (λ (b : Bool). eqb (class ws t) i && b) (ap₂ _&&_ (rest-is t l) (any t) ∙ and-true (stays ws L t && not (stays-full ws L t))))
+  any : (t : ℕ) → ltb (rank ws t) any-rank ≡ true
+  any t = lt-ltb (rank ws t) any-rank (omega arith)
 
-    -- those that stay are the full ones and the rest
-    staying-count : (i : ℕ) → ranked-in ws groups i full any-rank + ranked-in ws groups i rest any-rank ≡ staying ws L i
-    unfolding staying staying-full stays-full
-    staying-count i =
-        ap₂ _+_ (full-count i) (rest-count i)
-        ∙ sym (count-below-parts (segments ws) (λ s. eqb (class ws s) i && stays ws L s) (λ s. eqb (class ws s) i && stays-full ws L s)
-        (λ s. eqb (class ws s) i && (stays ws L s && not (stays-full ws L s)))
-        (λ s _. parts (eqb (class ws s) i) (stays ws L s) (eqb (live ws L s) (blocks (class ws s)))))
+  full-count : (i : ℕ) → ranked-in ws groups i full any-rank ≡ staying-full ws L i
+  unfolding ranked-in staying-full
+  full-count i =
+      count-below-ext (segments ws) (ranks-in ws groups i full any-rank) (λ s. eqb (class ws s) i && stays-full ws L s)
+      (λ t l. ap (λ (b : Bool). eqb (class ws t) i && b) (ap₂ _&&_ (full-is t l) (any t) ∙ and-true (stays-full ws L t)))
 
-    full-before : (s : ℕ) → ranked-in ws groups (class ws s) full (rank ws s) ≡ ranked-before ws (stays-full ws L) s
-    unfolding ranked-in ranked-before
-    full-before s =
-        count-below-ext (segments ws) (ranks-in ws groups (class ws s) full (rank ws s))
-        (λ t. eqb (class ws t) (class ws s) && (stays-full ws L t && ltb (rank ws t) (rank ws s)))
-        (λ t l. ap (λ (b : Bool). eqb (class ws t) (class ws s) && (b && ltb (rank ws t) (rank ws s))) (full-is t l))
+  rest-count : (i : ℕ) → ranked-in ws groups i rest any-rank ≡ count-below (segments ws) (λ s. eqb (class ws s) i && (stays ws L s && not (stays-full ws L s)))
+  unfolding ranked-in
+  rest-count i =
+      count-below-ext (segments ws) (ranks-in ws groups i rest any-rank) (λ s. eqb (class ws s) i && (stays ws L s && not (stays-full ws L s)))
+      (λ t l. ap (λ (b : Bool). eqb (class ws t) i && b) (ap₂ _&&_ (rest-is t l) (any t) ∙ and-true (stays ws L t && not (stays-full ws L t))))
 
-    rest-before : (s : ℕ) → ranked-in ws groups (class ws s) rest (rank ws s) ≡ ranked-before ws (λ t. stays ws L t && not (stays-full ws L t)) s
-    unfolding ranked-in ranked-before
-    rest-before s =
-        count-below-ext (segments ws) (ranks-in ws groups (class ws s) rest (rank ws s))
-        (λ t. eqb (class ws t) (class ws s) && ((stays ws L t && not (stays-full ws L t)) && ltb (rank ws t) (rank ws s)))
-        (λ t l. ap (λ (b : Bool). eqb (class ws t) (class ws s) && (b && ltb (rank ws t) (rank ws s))) (rest-is t l))
+  -- those that stay are the full ones and the rest
+  staying-count : (i : ℕ) → ranked-in ws groups i full any-rank + ranked-in ws groups i rest any-rank ≡ staying ws L i
+  unfolding staying staying-full stays-full
+  staying-count i =
+      ap₂ _+_ (full-count i) (rest-count i)
+      ∙ sym (count-below-parts (segments ws) (λ s. eqb (class ws s) i && stays ws L s) (λ s. eqb (class ws s) i && stays-full ws L s)
+      (λ s. eqb (class ws s) i && (stays ws L s && not (stays-full ws L s)))
+      (λ s _. parts (eqb (class ws s) i) (stays ws L s) (eqb (live ws L s) (blocks (class ws s)))))
 
-    -- ---- the new ranks and the new places
+  full-before : (s : ℕ) → ranked-in ws groups (class ws s) full (rank ws s) ≡ ranked-before ws (stays-full ws L) s
+  unfolding ranked-in ranked-before
+  full-before s =
+      count-below-ext (segments ws) (ranks-in ws groups (class ws s) full (rank ws s))
+      (λ t. eqb (class ws t) (class ws s) && (stays-full ws L t && ltb (rank ws t) (rank ws s)))
+      (λ t l. ap (λ (b : Bool). eqb (class ws t) (class ws s) && (b && ltb (rank ws t) (rank ws s))) (full-is t l))
 
-    pub rank-is : (s : ℕ) → s < segments ws → rank-by ws groups s ≡ new-rank ws L s
-    unfolding rank-by new-rank
-    rank-is s l = rw (full-is s l, full-before s, full-count (class ws s), rest-before s)
+  rest-before : (s : ℕ) → ranked-in ws groups (class ws s) rest (rank ws s) ≡ ranked-before ws (λ t. stays ws L t && not (stays-full ws L t)) s
+  unfolding ranked-in ranked-before
+  rest-before s =
+      count-below-ext (segments ws) (ranks-in ws groups (class ws s) rest (rank ws s))
+      (λ t. eqb (class ws t) (class ws s) && ((stays ws L t && not (stays-full ws L t)) && ltb (rank ws t) (rank ws s)))
+      (λ t l. ap (λ (b : Bool). eqb (class ws t) (class ws s) && (b && ltb (rank ws t) (rank ws s))) (rest-is t l))
 
-    pub place-is : (i : ℕ) → place-by ws groups i ≡ new-place ws L i
-    unfolding place-by place-for new-place
-    place-is i = rw (staying-count i, full-count i)
+  -- ---- the new ranks and the new places
+
+  pub rank-is : (s : ℕ) → s < segments ws → rank-by ws groups s ≡ new-rank ws L s
+  unfolding rank-by new-rank
+  rank-is s l = rw (full-is s l, full-before s, full-count (class ws s), rest-before s)
+
+  pub place-is : (i : ℕ) → place-by ws groups i ≡ new-place ws L i
+  unfolding place-by place-for new-place
+  place-is i = rw (staying-count i, full-count i)

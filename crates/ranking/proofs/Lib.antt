@@ -1,6 +1,6 @@
 pub mod LiveLaws
 pub mod GroupLaws
 pub mod Rows
+pub mod LevelLaws
 pub mod RecordLaws
-pub mod MarkLaws
 pub mod Collected

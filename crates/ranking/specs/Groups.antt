@@ -27,7 +27,7 @@ full = 1
 abbrev pub rest : ℕ
 rest = 2
 
--- the group of a segment of class i with n listed blocks
+-- the group of a segment of class i with n marked blocks
 unfoldable pub group-of : ℕ → ℕ → ℕ
 group-of i n = cond (eqb i 0 || eqb n 0) pool (cond (eqb n (blocks i)) full rest)
 

@@ -31,7 +31,7 @@ pub record HeadOf (ws lives : List ℕ) (s : ℕ) : Type 0 where
 pub record HeadsOf (ws lives : List ℕ) : Type 0 where
   pub few : segments ws ≤ 64
   pub long : length ws ≡ arena-length (segments ws)
-  pub fits : (s : ℕ) → s < 64 → word lives s < 4096
+  pub fits : (s : ℕ) → s < segments ws → word lives s < 4096
 
 pub record Heads (ws groups lives heads : List ℕ) : Type 0 where
   pub long : length heads ≡ 64

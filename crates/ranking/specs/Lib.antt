@@ -3,5 +3,5 @@ pub mod Live
 pub mod Groups
 pub mod Heads
 pub mod Places
+pub mod Levels
 pub mod Records
-pub mod Marks

@@ -1,26 +1,34 @@
--- How many handles of a list belong to each segment, and what is asked of the list.
+-- How many marks of a row belong to each segment.
 -- Assumes nothing.
-use Prim.Native.Nat.{ℕ, _<_}
+use Prim.Native.Nat.{ℕ, _+_, _*_, _/_, _%_, _≤_, _<_}
 use mathlib.Core.Path.{_≡_}
-use mathlib.Core.Logic.{_≢_}
+use mathlib.Core.Bool.{Bool}
 use mathlib.Core.List.{List}
-use lib.ListN.{length, getD}
+use lib.ListN.{length}
 use Rattle.model.specs.Below.{count-below}
-use Rattle.model.specs.Word.{word}
-use Rattle.model.specs.Layout.{handle, segment-of}
-use Rattle.model.specs.Ways.{listed}
+use Rattle.model.specs.Word.{word, part, bit}
 
--- handles of blocks of 64 segments, each once
-pub record Handles (L : List ℕ) : Type 0 where
-  pub some : (j : ℕ) → j < length L → 0 < getD L j 0
-  pub within : (j : ℕ) → j < length L → segment-of (getD L j 0) < 64
-  pub once : (j k : ℕ) → j < k → k < length L → getD L j 0 ≢ getD L k 0
+-- the 64 words of segment s, and the mark of its block k in them
+abbrev pub marks-of : List ℕ → ℕ → List ℕ
+marks-of marks s = part marks (1 + 64 * s) 64
 
--- how many of the 2,048 handles that a segment can have are in the list
+abbrev pub mark-in : List ℕ → ℕ → Bool
+mark-in m k = bit (word m (k / 32)) (k % 32)
+
+-- the row has the words of n segments, or of segment s
+pub record Row (marks : List ℕ) (n : ℕ) : Type 0 where
+  pub few : n ≤ 64
+  pub long : 1 + 64 * n ≤ length marks
+
+pub record RowOf (marks : List ℕ) (s : ℕ) : Type 0 where
+  pub few : s < 64
+  pub long : 1 + 64 * s + 64 ≤ length marks
+
+-- how many of the 2,048 blocks that a segment can have are marked
 unfoldable pub live-in : List ℕ → ℕ → ℕ
-live-in L s = count-below 2048 (λ k. listed L (handle s k))
+live-in marks s = count-below 2048 (mark-in (marks-of marks s))
 
--- a word for each of 64 segments: how many of its blocks are in the list
-pub record Live (L lives : List ℕ) : Type 0 where
+-- a word for each of 64 segments: how many blocks of the first n are marked
+pub record Live (marks : List ℕ) (n : ℕ) (lives : List ℕ) : Type 0 where
   pub long : length lives ≡ 64
-  pub counted : (s : ℕ) → s < 64 → word lives s ≡ live-in L s
+  pub counted : (s : ℕ) → s < n → word lives s ≡ live-in marks s

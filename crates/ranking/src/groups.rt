@@ -21,7 +21,7 @@ pub const REST: u32 = 2;
 // A rank has 8 bits, so all are below this.
 pub const ANY_RANK: u32 = 256;
 
-// The group of a segment of that class with so many listed blocks.
+// The group of a segment of that class with so many marked blocks.
 fn group(class: u32, live: u32) -> u32
     requires { ⌜ class < 16 ⌝ }
     ensures { λ r. ⌜ r ≡ group-of class live ⌝ }

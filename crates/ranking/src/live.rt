@@ -1,32 +1,30 @@
-// How many blocks of each segment are in the list.
+// How many blocks of each segment are marked.
 ghost use mathlib.Core.Path.{_≡_};
-ghost use Prim.Native.Nat.{_+_, _<_};
-ghost use lib.ListN.{set};
-ghost use Rattle.model.specs.Word.{word};
-ghost use Rattle.model.specs.Layout.{segment-of};
-ghost use Rattle.ranking.specs.Live.{Handles, Live};
-use model::Handle;
-use words::handles::segment;
+ghost use Prim.Native.Nat.{_≤_};
+ghost use Rattle.ranking.specs.Live.{RowOf, Row, live-in, Live};
+use bitmap::count::ones_in;
 use words::slices::wide;
 
-// One block more in its segment.
-fn add(lives: &mut [u32; 64], h: u32)
-    requires { ⌜ (0 < h) × (segment-of h < 64) × (word (now lives) (segment-of h) < 4096) ⌝ }
-    ensures { λ _. ⌜ now (lives .exit) ≡ set (now (lives .entry)) (segment-of h) (word (now (lives .entry)) (segment-of h) + 1) ⌝ }
+// The marks of a segment are 64 words; behind its blocks none is set.
+fn live_in(marks: &[u32], s: u32) -> u32
+    requires { ⌜ RowOf (now marks) s ⌝ }
+    ensures { λ r. ⌜ (r ≡ live-in (now (marks .entry)) s) × (r ≤ 2048) ⌝ }
 {
-    let s = wide(segment(Handle(h)));
-    lives[s] += 1;
+    let from = 1 + 64 * wide(s);
+    let to = from + 64;
+    ones_in(&marks[from..to])
 }
 
-pub fn count(list: &[u32]) -> [u32; 64]
-    requires { ⌜ Handles (now list) ⌝ }
-    ensures { λ r. ⌜ Live (now (list .entry)) r ⌝ }
+// The count of each of n segments.
+pub fn count(marks: &[u32], n: u32) -> [u32; 64]
+    requires { ⌜ Row (now marks) n ⌝ }
+    ensures { λ r. ⌜ Live (now (marks .entry)) n r ⌝ }
 {
     let mut lives = [0; 64];
-    let mut j = 0;
-    while j < list.len() {
-        add(&mut lives, list[j]);
-        j += 1;
+    let mut s: u32 = 0;
+    while s < n {
+        lives[wide(s)] = live_in(marks, s);
+        s += 1;
     }
     lives
 }
