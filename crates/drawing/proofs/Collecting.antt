@@ -1,15 +1,15 @@
 -- What a collection goes by: the roots as the taken row tells them, and the list of a trace. Assumes nothing.
-use Prim.Native.Nat.{ℕ}
+use Prim.Native.Nat.{ℕ, _*_}
 use native.Mathlib.Omega.{arith}
-use mathlib.Core.Path.{_≡_, refl, sym, _∙_}
-use mathlib.Core.Bool.{false}
+use mathlib.Core.Path.{_≡_, refl, sym, ap, _∙_}
+use mathlib.Core.Bool.{Bool, false, _||_}
 use mathlib.Core.List.{List, [], _∷_}
 use lib.ListN.{length, getD, take}
 use lib.Dec.{eqb}
-use borrow.Author.Tests.{eqb-false}
+use borrow.Author.Tests.{eqb-false, ne-eqb}
 use Rattle.model.specs.Below.{all-below}
-use Rattle.model.specs.View.{segments}
-use Rattle.model.specs.Standing.{none-or-taken}
+use Rattle.model.specs.Standing.{none-or-taken, taken-count}
+use Rattle.model.specs.Ways.{listed}
 use Rattle.model.specs.Numbers.{collected-paper}
 use Rattle.model.specs.Calls.{collect-refusal, Granted, Collect}
 use Rattle.model.specs.declared.Collected.{Collected}
@@ -20,26 +20,28 @@ use Rattle.kept.proofs.Reached.{reachable-taken}
 use Rattle.taken.specs.Row.{TakenRow, row-none-or-taken}
 use Rattle.taken.proofs.RowLaws.{row-none-or-taken-is}
 use Rattle.trace.specs.Trace.{Traceable, Traced}
-use Rattle.ranking.specs.Anew.{TakenList}
+use Rattle.ranking.specs.Anew.{Reached}
+use Rattle.ways.proofs.Reach.{listed-reachable}
 use Rattle.drawing.proofs.RefusalNumbers.{collect-may}
 
-pub taken-list : {ws roots list marks list' marks' : List ℕ} {c : ℕ} → Traceable ws roots list marks → Traced ws roots list c list' marks'
-    → TakenList ws (take c list')
-taken-list {ws} {roots} {list' = list'} {c = c} may done = record {
+-- the marks of a trace are those of taken blocks alone
+pub reached : {ws roots list marks list' marks' : List ℕ} {most c : ℕ} → Traceable ws roots list marks most → Traced ws roots list c list' marks'
+    → length marks' ≡ length marks → Reached ws marks'
+reached {ws} {roots} {list' = list'} {c = c} may done same = record {
   is-sound = may .right;
-  taken = λ k l.
+  long = omega (arith, may .row, same);
+  taken = λ h some below marked.
+      let in-list = sym (done .marked .at h below ∙ ap (λ (t : Bool). t || listed (take c list') h) (ne-eqb h 0 (λ z. omega arith))) ∙ marked in
       reachable-taken ws roots (sound-facts ws (may .right))
-      (all-below-at (length roots) (λ p. none-or-taken ws (getD roots p 0)) (may .right-roots)) (getD (take c list') k 0)
-      (done .listing .nothing-else k l);
-  once = done .listing .once;
+      (all-below-at (length roots) (λ p. none-or-taken ws (getD roots p 0)) (may .right-roots)) h (listed-reachable (done .listing) h .0 in-list);
 }
 
 -- what the taken row says of the roots is what the arena says
-pub roots-by-row : {ws row : List ℕ} {n : ℕ} (roots : List ℕ) → TakenRow ws row → n ≡ segments ws
-    → all-below (length roots) (λ p. row-none-or-taken row n (getD roots p 0)) ≡ all-below (length roots) (λ p. none-or-taken ws (getD roots p 0))
-roots-by-row {ws} {row} {n} roots t e =
-    all-below-ext (length roots) (λ p. row-none-or-taken row n (getD roots p 0)) (λ p. none-or-taken ws (getD roots p 0))
-    (λ p _. row-none-or-taken-is t (sym e) (getD roots p 0))
+pub roots-by-row : {ws row : List ℕ} (roots : List ℕ) → TakenRow ws row
+    → all-below (length roots) (λ p. row-none-or-taken row (getD roots p 0)) ≡ all-below (length roots) (λ p. none-or-taken ws (getD roots p 0))
+roots-by-row {ws} {row} roots t =
+    all-below-ext (length roots) (λ p. row-none-or-taken row (getD roots p 0)) (λ p. none-or-taken ws (getD roots p 0))
+    (λ p _. row-none-or-taken-is t (getD roots p 0))
 
 -- ---- how collect's promise is shown, of a refusal and of a grant
 
@@ -61,13 +63,15 @@ collect-live ws roots list ws' list' c none g = record {
   collected-so = λ _. g;
 }
 
--- a collection that is not refused may be traced, with a row of 4,096 words for marks
-pub traceable : (ws roots list marks : List ℕ) → collect-refusal ws roots list ≡ 0 → length marks ≡ 4096 → Traceable ws roots list marks
-traceable ws roots list marks none long =
+-- a collection that is not refused may be traced, with a row of 4,097 words for marks
+pub traceable : (ws roots list marks : List ℕ) (taken : ℕ) → collect-refusal ws roots list ≡ 0 → length marks ≡ 4097 → taken ≡ taken-count ws
+    → Traceable ws roots list marks taken
+traceable ws roots list marks taken none long all =
     let may = collect-may ws roots list none in
     record {
       right = may .0;
       right-roots = may .1;
       room = may .2;
       row = omega (arith, sound-facts ws (may .0) .size .few);
+      all = all;
     }

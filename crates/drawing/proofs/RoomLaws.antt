@@ -11,30 +11,32 @@ use borrow.Author.Tests.{eq-eqb, ne-eqb}
 use Rattle.model.specs.Below.{count-below, sum-below}
 use Rattle.model.specs.Word.{word, bit}
 use Rattle.model.specs.Class.{blocks}
+use Rattle.model.specs.Layout.{handle}
 use Rattle.model.specs.View.{segments, class}
 use Rattle.model.specs.Standing.{taken-at}
 use Rattle.model.specs.Calls.{room}
 use Rattle.laws.proofs.Below.{count-below-ext, count-below-add, count-below-none, count-below-not, count-below-le}
 use Rattle.words.proofs.ClassLaws.{bounds-class, blocks-most}
 use Rattle.soundness.proofs.Taken.{past-untaken}
-use Rattle.taken.proofs.RowLaws.{is-taken-at}
-use Rattle.taken.specs.Row.{row-bit, TakenRow}
+use Rattle.arena.specs.Rows.{row-bit}
+use Rattle.taken.specs.Row.{TakenRow}
+use Rattle.taken.proofs.RowLaws.{is-taken-at, row-bit-taken}
 use Rattle.drawing.specs.Rooms.{room-in, SegmentRoom}
 
 -- ---- the words of a segment
 
 -- bit k of segment s
 abbrev pub segment-bit : List ℕ → ℕ → ℕ → Bool
-segment-bit row s k = row-bit row (2048 * s + k)
+segment-bit row s k = row-bit row (handle s k)
 
 -- the ones of one word more
 pub count-more : (row : List ℕ) (s j : ℕ)
-    → count-below (32 * (j + 1)) (segment-bit row s) ≡ count-below (32 * j) (segment-bit row s) + count-below 32 (bit (word row (64 * s + j)))
+    → count-below (32 * (j + 1)) (segment-bit row s) ≡ count-below (32 * j) (segment-bit row s) + count-below 32 (bit (word row (1 + 64 * s + j)))
 count-more row s j =
     ap (λ (n : ℕ). count-below n (segment-bit row s)) (omega arith)
     ∙ count-below-add (32 * j) 32 (segment-bit row s)
     ∙ ap (λ (c : ℕ). count-below (32 * j) (segment-bit row s) + c)
-    (count-below-ext 32 (λ k. segment-bit row s (32 * j + k)) (bit (word row (64 * s + j)))
+    (count-below-ext 32 (λ k. segment-bit row s (32 * j + k)) (bit (word row (1 + 64 * s + j)))
     (λ k l. ap₂ (λ (p b : ℕ). bit (word row p) b) (omega arith) (omega arith)))
 
 -- ---- untaken blocks
@@ -43,11 +45,14 @@ module _ (ws row : List ℕ) (s i : ℕ) (t : TakenRow ws row) (there : s < segm
   most : blocks i ≤ 2048
   most = blocks-most i (bounds-class i low high)
 
+  at : (k : ℕ) → handle s k ≡ 2048 * s + k + 1
+  at k = omega arith
+
   -- past the class's blocks no bit is set
   ones-taken : count-below 2048 (segment-bit row s) ≡ count-below (blocks i) (taken-at ws s)
   ones-taken =
       count-below-ext 2048 (segment-bit row s) (taken-at ws s)
-      (λ k l. t .taken (2048 * s + k) (omega arith) ∙ is-taken-at ws (2048 * s + k) ∙ ap₂ (taken-at ws) (omega arith) (omega arith))
+      (λ k l. ap (row-bit row) (at k) ∙ row-bit-taken t (2048 * s + k) (omega arith) ∙ is-taken-at ws (2048 * s + k) ∙ ap₂ (taken-at ws) (omega arith) (omega arith))
       ∙ ap (λ (n : ℕ). count-below n (taken-at ws s)) (sym (add-sub-of-le most))
       ∙ count-below-add (blocks i) (2048 - blocks i) (taken-at ws s)
       ∙ omega (

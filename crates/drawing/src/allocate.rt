@@ -54,7 +54,7 @@ fn allocate_sound(arena: &mut [u32], n: u32, r: u32, tag: u8) -> Allocated
 pub fn allocate(arena: &mut [u32], n: u32, r: u32, tag: u8) -> Allocated
     ensures { λ a. ⌜ Allocate (now (arena .entry)) n r tag a (now (arena .exit)) ⌝ }
 {
-    let mut row = [0u32; 4096];
+    let mut row = [0u32; 8192];
     if !judge(arena, &mut row) {
         return Allocated::Unsound;
     }

@@ -13,7 +13,7 @@ use model::Stood;
 pub fn standing(arena: &[u32], h: Handle) -> Stood
     ensures { λ r. ⌜ AskStanding (now (arena .entry)) (h .0) r (now (arena .exit)) ⌝ }
 {
-    let mut row = [0u32; 4096];
+    let mut row = [0u32; 8192];
     if !judge(arena, &mut row) {
         return Stood::Unsound;
     }
@@ -24,7 +24,7 @@ pub fn standing(arena: &[u32], h: Handle) -> Stood
 pub fn shape(arena: &[u32], h: Handle) -> Shaped
     ensures { λ r. ⌜ AskShape (now (arena .entry)) (h .0) r (now (arena .exit)) ⌝ }
 {
-    let mut row = [0u32; 4096];
+    let mut row = [0u32; 8192];
     if !judge(arena, &mut row) {
         return Shaped::Unsound;
     }
@@ -38,7 +38,7 @@ pub fn shape(arena: &[u32], h: Handle) -> Shaped
 pub fn room(arena: &[u32], class: u32) -> Room
     ensures { λ r. ⌜ AskRoom (now (arena .entry)) class r (now (arena .exit)) ⌝ }
 {
-    let mut row = [0u32; 4096];
+    let mut row = [0u32; 8192];
     if !judge(arena, &mut row) {
         return Room::Unsound;
     }

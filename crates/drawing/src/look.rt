@@ -31,19 +31,19 @@ pub fn block(arena: &[u32], h: Handle) -> &[u32]
     block_of(arena, n, s, i, index(h))
 }
 
-pub fn is_block_taken(arena: &[u32], row: &[u32; 4096], h: Handle) -> bool
+pub fn is_block_taken(arena: &[u32], row: &[u32; 8192], h: Handle) -> bool
     requires { ⌜ Ruled (now arena) (now row) ⌝ }
     ensures { λ r. ⌜ Asked (now (arena .entry)) (h .0) r ⌝ }
 {
-    is_taken(row, segments(arena), h.0)
+    is_taken(row, h.0)
 }
 
 // 0 or the handle of a taken block: what a reference may be.
-pub fn is_value(arena: &[u32], row: &[u32; 4096], v: u32) -> bool
+pub fn is_value(arena: &[u32], row: &[u32; 8192], v: u32) -> bool
     requires { ⌜ Ruled (now arena) (now row) ⌝ }
     ensures { λ r. ⌜ r ≡ none-or-taken (now (arena .entry)) v ⌝ }
 {
-    none_or_taken(row, segments(arena), v)
+    none_or_taken(row, v)
 }
 
 // There is such a block: its segment is one of the arena's and not in the pool, and its index not past the class's blocks.
@@ -63,7 +63,7 @@ fn is_block(arena: &[u32], h: Handle) -> bool
     k.0 < blocks(i)
 }
 
-pub fn standing_of(arena: &[u32], row: &[u32; 4096], h: Handle) -> Standing
+pub fn standing_of(arena: &[u32], row: &[u32; 8192], h: Handle) -> Standing
     requires { ⌜ Ruled (now arena) (now row) ⌝ }
     ensures { λ r. ⌜ r ≡ standing-of (now (arena .entry)) (h .0) ⌝ }
 {

@@ -19,7 +19,7 @@ pub struct Place {
 pub fn plain_place(arena: &[u32], h: Handle) -> Place
     ensures { λ p. ⌜ PlainPlace (now (arena .entry)) (h .0) (p .number) (p .at .0) (p .count) ⌝ }
 {
-    let mut row = [0u32; 4096];
+    let mut row = [0u32; 8192];
     if !judge(arena, &mut row) {
         return Place {
             number: 2,

@@ -15,7 +15,7 @@ use model::Written;
 pub fn read_plain(arena: &[u32], h: Handle, f: u32) -> Read
     ensures { λ r. ⌜ ReadPlain (now (arena .entry)) (h .0) f r (now (arena .exit)) ⌝ }
 {
-    let mut row = [0u32; 4096];
+    let mut row = [0u32; 8192];
     if !judge(arena, &mut row) {
         return Read::Unsound;
     }
@@ -29,7 +29,7 @@ pub fn read_plain(arena: &[u32], h: Handle, f: u32) -> Read
 pub fn write_plain(arena: &mut [u32], h: Handle, f: u32, v: u32) -> Written
     ensures { λ r. ⌜ WritePlain (now (arena .entry)) (h .0) f v r (now (arena .exit)) ⌝ }
 {
-    let mut row = [0u32; 4096];
+    let mut row = [0u32; 8192];
     if !judge(arena, &mut row) {
         return Written::Unsound;
     }
@@ -48,7 +48,7 @@ pub fn write_plain(arena: &mut [u32], h: Handle, f: u32, v: u32) -> Written
 pub fn plain_words(arena: &[u32], h: Handle) -> &[u32]
     ensures { λ r. ⌜ PlainWords (now (arena .entry)) (h .0) (now r) (now (arena .exit)) ⌝ }
 {
-    let mut row = [0u32; 4096];
+    let mut row = [0u32; 8192];
     if !judge(arena, &mut row) {
         return &arena[0..0];
     }

@@ -14,7 +14,7 @@ use model::Written;
 pub fn read_reference(arena: &[u32], h: Handle, f: u32) -> Read
     ensures { λ r. ⌜ ReadReference (now (arena .entry)) (h .0) f r (now (arena .exit)) ⌝ }
 {
-    let mut row = [0u32; 4096];
+    let mut row = [0u32; 8192];
     if !judge(arena, &mut row) {
         return Read::Unsound;
     }
@@ -28,7 +28,7 @@ pub fn read_reference(arena: &[u32], h: Handle, f: u32) -> Read
 pub fn write_reference(arena: &mut [u32], h: Handle, f: u32, v: u32) -> Written
     ensures { λ r. ⌜ WriteReference (now (arena .entry)) (h .0) f v r (now (arena .exit)) ⌝ }
 {
-    let mut row = [0u32; 4096];
+    let mut row = [0u32; 8192];
     if !judge(arena, &mut row) {
         return Written::Unsound;
     }

@@ -1,9 +1,10 @@
 // Room of a class: its untaken blocks, counted by the taken row.
 ghost use mathlib.Core.Path.{_≡_};
-ghost use Prim.Native.Nat.{_+_, _*_, _<_};
+ghost use Prim.Native.Nat.{_<_};
 ghost use Rattle.model.specs.Below.{count-below};
+ghost use Rattle.model.specs.Layout.{handle};
 ghost use Rattle.model.specs.Calls.{room};
-ghost use Rattle.taken.specs.Row.{row-bit};
+ghost use Rattle.arena.specs.Rows.{row-bit};
 ghost use Rattle.drawing.specs.Rooms.{ClassOf, SegmentOf, SegmentRoom};
 use arena::segments;
 use words::bits::ones;
@@ -11,11 +12,11 @@ use words::class::blocks;
 use words::slices::wide;
 
 // The taken blocks of a segment: the ones of its 64 words.
-fn taken_in(row: &[u32; 4096], segment: u32) -> u32
+fn taken_in(row: &[u32; 8192], segment: u32) -> u32
     requires { ⌜ segment < 64 ⌝ }
-    ensures { λ r. ⌜ r ≡ count-below 2048 (λ k. row-bit (now (row .entry)) (2048 * segment + k)) ⌝ }
+    ensures { λ r. ⌜ r ≡ count-below 2048 (λ k. row-bit (now (row .entry)) (handle segment k)) ⌝ }
 {
-    let from = 64 * wide(segment);
+    let from = 1 + 64 * wide(segment);
     let mut count: u32 = 0;
     let mut j = 0;
     while j < 64 {
@@ -26,7 +27,7 @@ fn taken_in(row: &[u32; 4096], segment: u32) -> u32
 }
 
 // What a segment gives to the room of a class.
-fn room_in(arena: &[u32], row: &[u32; 4096], segment: u32, class: u32) -> u32
+fn room_in(arena: &[u32], row: &[u32; 8192], segment: u32, class: u32) -> u32
     requires { ⌜ SegmentOf (now arena) (now row) segment class ⌝ }
     ensures { λ r. ⌜ SegmentRoom (now (arena .entry)) segment class r ⌝ }
 {
@@ -37,7 +38,7 @@ fn room_in(arena: &[u32], row: &[u32; 4096], segment: u32, class: u32) -> u32
     }
 }
 
-pub fn room_of(arena: &[u32], row: &[u32; 4096], class: u32) -> u32
+pub fn room_of(arena: &[u32], row: &[u32; 8192], class: u32) -> u32
     requires { ⌜ ClassOf (now arena) (now row) class ⌝ }
     ensures { λ r. ⌜ r ≡ room (now (arena .entry)) class ⌝ }
 {

@@ -8,7 +8,7 @@ use records::records_right;
 use taken::judge::taken_right;
 use taken::row::fill_row;
 
-pub fn judge(arena: &[u32], row: &mut [u32; 4096]) -> bool
+pub fn judge(arena: &[u32], row: &mut [u32; 8192]) -> bool
     ensures { λ r. ⌜ Judged (now (arena .entry)) (now (row .exit)) r ⌝ }
 {
     if !records_right(arena) {

@@ -12,7 +12,7 @@ use Rattle.drawing.proofs.rooms.taken_in.Statement.{statement}
 use Rattle.drawing.proofs.rooms.taken_in.Tie as tie
 
 abbrev Inv-loop : tie.InvT-loop
-Inv-loop row segment from count₀ j₀ count j = (from ≡ 64 * segment) × (j ≤ 64) × (count ≡ count-below (32 * j) (segment-bit row segment))
+Inv-loop row segment from count₀ j₀ count j = (from ≡ 1 + 64 * segment) × (j ≤ 64) × (count ≡ count-below (32 * j) (segment-bit row segment))
 
 abbrev μ-loop : tie.MeasureT-loop
 μ-loop row segment from count₀ j₀ count j = 64 - j
@@ -22,6 +22,9 @@ wide-requires c κs = search needs
 
 mul-from : tie.Need-mul-from Inv-loop μ-loop
 mul-from c = search needs
+
+add-from : tie.Need-add-from Inv-loop μ-loop
+add-from c = search needs
 
 loop-holds : tie.Need-loop-holds Inv-loop μ-loop
 unfolding count-below
@@ -43,7 +46,7 @@ add-count : tie.Need-add-count Inv-loop μ-loop
 add-count c =
     let row = c .before .before .before .before .before .args .row .now in
     let s = c .before .before .before .before .before .args .segment in
-    let at = 64 * c .before .before .before .before .wide .result + c .before .before .before .loop .j in
+    let at = 1 + 64 * c .before .before .before .before .wide .result + c .before .before .before .loop .j in
     let j = c .before .before .before .loop .j in
     omega (arith, c .ones .ensures, count-below-le 32 (bit (word row at)), count-below-le (32 * j) (segment-bit row s))
 
@@ -58,7 +61,7 @@ loop-again c =
     let row = c .before .before .before .before .before .args .row .now in
     let s = c .before .before .before .before .before .args .segment in
     let j = c .before .before .before .loop .j in
-    let here = ap (λ (t : ℕ). count-below 32 (bit (word row (64 * t + j)))) (c .before .before .before .before .wide .ensures) in
+    let here = ap (λ (t : ℕ). count-below 32 (bit (word row (1 + 64 * t + j)))) (c .before .before .before .before .wide .ensures) in
     (search needs, search needs, ap₂ _+_ (c .before .before .before .loop .inv .2) (c .ones .ensures ∙ here) ∙ sym (count-more row s j))
 
 returns : tie.Need-returns Inv-loop μ-loop
@@ -75,6 +78,7 @@ taken-in-spec =
     μ-loop
     wide-requires
     mul-from
+    add-from
     loop-holds
     add-ones
     mul-ones
