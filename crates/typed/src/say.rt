@@ -5,8 +5,9 @@ ghost use mathlib.Core.List.{_∷_, _++_};
 ghost use Prim.Native.Nat.{_+_, _-_, _*_, _≤_, _<_};
 ghost use lib.ListN.{length, take, drop};
 ghost use Rattle.io.specs.Counts.{Counts};
-ghost use Rattle.typed.specs.Held.{live-count};
+ghost use Rattle.typed.specs.Orders.{live-count, listed-count};
 ghost use Rattle.typed.specs.Answers.{decimal, spelled, numbered, newline, refused-word, bad-line-words, allocated-words, written-words, collected-head};
+use crate::Answer;
 use libc::STDOUT_FILENO;
 use model::Allocated;
 use model::Collected;
@@ -144,19 +145,19 @@ fn piece_text(text: &mut [u8], handles: &[u32], at: usize, end: usize) -> usize
     handles_text(text, &handles[at..end])
 }
 
-pub fn bad_line() -> bool {
+fn bad_line() -> bool {
     let mut text = [0u8; 32];
     let n = bad_line_text(&mut text);
     io::write_all(STDOUT_FILENO, &text[..n])
 }
 
-pub fn allocated(a: Allocated) -> bool {
+fn allocated(a: Allocated) -> bool {
     let mut text = [0u8; 32];
     let n = allocated_text(&mut text, a);
     io::write_all(STDOUT_FILENO, &text[..n])
 }
 
-pub fn written(a: Written) -> bool {
+fn written(a: Written) -> bool {
     let mut text = [0u8; 32];
     let n = written_text(&mut text, a);
     io::write_all(STDOUT_FILENO, &text[..n])
@@ -190,7 +191,7 @@ fn head(a: Collected) -> bool {
 }
 
 // Where blocks are live, the list holds their handles.
-pub fn collected(a: Collected, list: &[u32]) -> bool
+fn collected(a: Collected, list: &[u32]) -> bool
     requires { ⌜ live-count a ≤ length (now list) ⌝ }
 {
     if !head(a) {
@@ -204,4 +205,15 @@ pub fn collected(a: Collected, list: &[u32]) -> bool
         return false;
     }
     io::write_all(STDOUT_FILENO, b"\n")
+}
+
+pub fn answer(x: Answer, list: &[u32]) -> bool
+    requires { ⌜ listed-count x ≤ length (now list) ⌝ }
+{
+    match x {
+        Answer::Allocated(a) => allocated(a),
+        Answer::Written(a) => written(a),
+        Answer::Collected(a) => collected(a, list),
+        Answer::BadLine => bad_line(),
+    }
 }

@@ -6,7 +6,7 @@ use lib.ListN.{length}
 use borrow.Author.Needs.{needs}
 use Rattle.io.proofs.Counting.{front}
 use Rattle.model.specs.declared.Collected.{Collected}
-use Rattle.typed.specs.Held.{live-count}
+use Rattle.typed.specs.Orders.{live-count}
 use Rattle.typed.proofs.say.collected.Statement.{statement}
 use Rattle.typed.proofs.say.collected.Tie as tie
 
