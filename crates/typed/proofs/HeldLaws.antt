@@ -1,18 +1,16 @@
 -- What is held of a line: a byte more, and what the bytes that are held mean.
 -- Assumes nothing.
-use Prim.Native.Nat.{ℕ, suc, _+_, _≤_, _<_, min}
-use mathlib.Core.Path.{_≡_, refl, sym, ap, ap₂, _∙_, subst}
-use mathlib.Core.Logic.{_≢_}
-use mathlib.Core.Bool.{cond, true, false}
-use mathlib.Core.List.{List, [], _∷_, _++_, append-nil}
+use Prim.Native.Nat.{ℕ, _+_, _≤_, _<_}
+use mathlib.Core.Path.{_≡_, sym, ap, _∙_, subst}
+use mathlib.Core.List.{List, [], _∷_, _++_}
 use native.Mathlib.Nat.{le-refl, lt-of-not-le}
 use native.Mathlib.Decide.{decLe, ℕ-discrete}
 use native.Mathlib.Numerals.{add-one}
 use native.Mathlib.Omega.{arith}
-use lib.ListN.{length, getD, set, take, length-take, length-append}
+use lib.ListN.{length, getD, set, take, length-append}
 use lib.Seq.{length-take-le, take-all, take-at, take-take, take-suc, take-suc-set, take-append-le}
 use borrow.Author.Tests.{lt-leb}
-use Rattle.lines.specs.Line.{meaning, fields, meant, bad}
+use Rattle.lines.specs.Line.{meaning}
 use Rattle.typed.specs.Held.{newline, joined, TookByte, Typed, nothing, byte, end, TypedHeld}
 use Rattle.typed.specs.Orders.{Answered}
 

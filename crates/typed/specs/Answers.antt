@@ -9,7 +9,7 @@ use lib.ListN.{getD, take}
 use lib.Dec.{eqb, ltb}
 use Rattle.io.specs.Digits.{digits}
 use Rattle.model.specs.Below.{first-from}
-use Rattle.model.specs.Numbers.{Paper, granted, allocated-paper, written-paper, collected-paper}
+use Rattle.model.specs.Numbers.{granted, allocated-paper, written-paper, collected-paper}
 use Rattle.model.specs.declared.Allocated.{Allocated}
 use Rattle.model.specs.declared.Written.{Written}
 use Rattle.model.specs.declared.Collected.{Collected}

@@ -1,7 +1,7 @@
 -- What is held of the line that is being typed, and what typing does: a byte joins the line, and a newline has the line answered and begins
 -- another. A line may be of any length; of its bytes so many are held as there is room for.
 -- Assumes nothing.
-use Prim.Native.Nat.{ℕ, _≤_}
+use Prim.Native.Nat.{ℕ, _≤_, _<_}
 use mathlib.Core.Path.{_≡_}
 use mathlib.Core.Logic.{_≢_}
 use mathlib.Core.Bool.{Bool, true, false}
@@ -51,11 +51,12 @@ pub record TypedHeld (room : ℕ) (line ws list bytes line' ws' list' : List ℕ
   pub typed : Typed line ws list bytes whole ws' list'
   pub held : line' ≡ take room whole
 
--- bytes were taken in: all of them where more may be typed
+-- bytes were taken in: all of them where more may be typed, and else at least one
 pub record TookBytes (room : ℕ) (line ws list bytes : List ℕ) (r : Held) (line' ws' list' : List ℕ) : Type 0 where
   pub taken : ℕ
   pub within : taken ≤ length bytes
   pub all : goes-on r ≡ true → taken ≡ length bytes
+  pub some : goes-on r ≡ false → 0 < taken
   pub so : TypedHeld room line ws list (take taken bytes) line' ws' list'
 
 -- the input has ended where so many bytes of a line are held. "The last line may lack its newline."

@@ -4,6 +4,10 @@
 // line of any length takes no more room: with 81 bytes it is too long, whatever follows. Each line is answered
 // as soon as its end is there, and before the next read, since a person waits for it. What a line means stands
 // in crate lines, what a call gives in crate model; the words of an answer stand in module say.
+//
+// Shown here of each piece, behind what is held of the line before it: every line that ends is answered by the
+// call that it means (specs/Orders), and what is held is the line that goes on (specs/Held). The text of an
+// answer is its words, byte by byte (specs/Answers). What the system reads and writes is not shown.
 ghost use mathlib.Core.Path.{_≡_};
 ghost use Prim.Native.Nat.{_≤_};
 ghost use lib.ListN.{length, take};

@@ -1,6 +1,6 @@
 -- `typed::take_bytes` meets its contract: before each turn the bytes before it have been typed. The measure is the bytes that are left. Assumes nothing.
 use Prim.Native.Nat.{_+_, _-_, _≤_}
-use mathlib.Core.Path.{_≡_, refl, ap, subst}
+use mathlib.Core.Path.{_≡_, refl, sym, ap}
 use mathlib.Core.Bool.{false≢true}
 use native.Mathlib.Omega.{arith}
 use lib.ListN.{length, take}
@@ -57,7 +57,7 @@ returns c =
     let next = typed-next (length (now .line)) (take (start .args .before) (start .args .line .now)) (start .args .arena .now) (start .args .list .now)
     (start .args .bytes .now) (now .at) (take (now .held) (now .line)) (now .arena) (now .list) (took .last .1 .1 .0) (held-bytes (took .result)) _
     _ _ room (c .before .before .before .before .before .before .before .before .before .before .before .before .before .loop-test .taken) told (now .inv .5) (took .ensures .1) in
-    (omega arith, record { taken = now .at + 1; within = search needs; all = λ e. absurd (false≢true e); so = next })
+    (omega arith, record { taken = now .at + 1; within = search needs; all = λ e. absurd (false≢true e); some = λ e. omega arith; so = next })
 
 add-at : tie.Need-add-at Inv-loop μ-loop
 add-at c = search needs
@@ -89,7 +89,7 @@ same-length-6 c = search needs
 returns-2 : tie.Need-returns-2 Inv-loop μ-loop
 returns-2 c =
     let now = c .before .loop in
-    (omega arith, record { taken = now .at; within = now .inv .4; all = λ e. search needs; so = now .inv .5 })
+    (omega arith, record { taken = now .at; within = now .inv .4; all = λ e. search needs; some = λ e. absurd (false≢true (sym e)); so = now .inv .5 })
 
 pub take-bytes-spec : {M : Type 1} → statement M
 take-bytes-spec =

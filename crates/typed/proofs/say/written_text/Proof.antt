@@ -1,6 +1,5 @@
 -- `typed::say::written_text` meets its contract: number 0 is a grant, any other a refusal. Assumes nothing.
-use Prim.Native.Nat.{ℕ}
-use mathlib.Core.Path.{_≡_, sym, _∙_}
+use mathlib.Core.Path.{sym, _∙_}
 use borrow.Author.Needs.{needs}
 use Rattle.typed.proofs.AnswerLaws.{said-granted, said-refused}
 use Rattle.typed.proofs.say.written_text.Statement.{statement}
