@@ -1,1 +1,4 @@
-pub mod Live
+pub mod AnswerLaws
+pub mod Examples
+pub mod HeldLaws
+pub mod OrderLaws

@@ -5,11 +5,11 @@ use Rattle.io.proofs.Counting.{front}
 use Rattle.typed.proofs.answer_held.Statement.{statement}
 use Rattle.typed.proofs.answer_held.Tie as tie
 
-slice-aggregate-answer : tie.Need-slice-aggregate-answer
-slice-aggregate-answer c = front _ _ (omega arith)
+slice-aggregate-answer-line : tie.Need-slice-aggregate-answer-line
+slice-aggregate-answer-line c = front _ _ (omega arith)
 
-answer-requires : tie.Need-answer-requires
-answer-requires c κs = search needs
+answer-line-requires : tie.Need-answer-line-requires
+answer-line-requires c κs = search needs
 
 same-length : tie.Need-same-length
 same-length c = search needs
@@ -22,4 +22,4 @@ returns c = search needs
 
 pub answer-held-spec : {M : Type 1} → statement M
 answer-held-spec =
-    tie.close (tie.spec slice-aggregate-answer answer-requires same-length same-length-2 returns)
+    tie.close (tie.spec slice-aggregate-answer-line answer-line-requires same-length same-length-2 returns)

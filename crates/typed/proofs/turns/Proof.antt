@@ -1,5 +1,5 @@
 -- `typed::turns` is safe and ends: what is held stays within the line. The measure is the turns that are left. Assumes nothing.
-use Prim.Native.Nat.{_-_, _≤_}
+use Prim.Native.Nat.{_≤_}
 use mathlib.Core.Path.{_≡_, ap}
 use native.Mathlib.Omega.{arith}
 use lib.ListN.{length}

@@ -17,18 +17,6 @@ loop-holds c = search needs
 piece-end-requires : tie.Need-piece-end-requires Inv-loop μ-loop
 piece-end-requires c κs = search needs
 
-mul-piece : tie.Need-mul-piece Inv-loop μ-loop
-mul-piece c = search needs
-
-sub-piece : tie.Need-sub-piece Inv-loop μ-loop
-sub-piece c = search needs
-
-part-piece-start : tie.Need-part-piece-start Inv-loop μ-loop
-part-piece-start c = search needs
-
-part-piece-end : tie.Need-part-piece-end Inv-loop μ-loop
-part-piece-end c = search needs
-
 piece-requires : tie.Need-piece-requires Inv-loop μ-loop
 piece-requires c κs = search needs
 
@@ -52,10 +40,6 @@ pieces-spec =
     μ-loop
     loop-holds
     piece-end-requires
-    mul-piece
-    sub-piece
-    part-piece-start
-    part-piece-end
     piece-requires
     returns
     loop-less
