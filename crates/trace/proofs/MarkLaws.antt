@@ -22,7 +22,7 @@ use Rattle.trace.specs.Marks.{Mark}
 -- ---- without a branch
 
 -- `1 - (w >> b) % 2`
-pub not-set : (w b : ℕ) → 1 - w / 2 ^ b % 2 ≡ one-if (not (bit w b))
+not-set : (w b : ℕ) → 1 - w / 2 ^ b % 2 ≡ one-if (not (bit w b))
 not-set w b = go (digit (w / 2 ^ b))
   where
     go : (w / 2 ^ b % 2 ≡ 0) ⊎ (w / 2 ^ b % 2 ≡ 1) → 1 - w / 2 ^ b % 2 ≡ one-if (not (bit w b))

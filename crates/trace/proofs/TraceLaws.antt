@@ -1,5 +1,5 @@
--- The trace: the handles that it meets are taken blocks, so there is room for them; what one turn does to the list; and that turns, begun
--- with the roots, keep the invariant of the list of demand 3.
+-- The trace: the handles that it meets are taken blocks, so there is room for them; what one turn does to the list; that turns, begun with
+-- the roots, keep the invariant of the list of demand 3; and that nothing is put on a list of all taken blocks.
 -- Assumes nothing.
 use Prim.Native.Nat.{ℕ, zero, suc, _+_, _-_, _*_, _≤_, _<_}
 use mathlib.Core.Path.{_≡_, refl, sym, ap, ap₂, _∙_, subst}

@@ -2,8 +2,8 @@
 -- Assumes nothing.
 use Prim.Native.Nat.{ℕ, _+_, _*_, _<_, _≤_}
 use mathlib.Core.Path.{_≡_}
-use mathlib.Core.Bool.{false, cond}
-use mathlib.Core.List.{List, [], _∷_, _++_}
+use mathlib.Core.Bool.{false}
+use mathlib.Core.List.{List, [], _++_}
 use lib.ListN.{length, getD, take, drop}
 use Rattle.ways.proofs.Put.{put-on, put-all}
 use Rattle.arena.specs.Rows.{row-bit, Marked}
@@ -40,16 +40,6 @@ pub record Roots (N : ℕ) (roots list marks : List ℕ) : Type 0 where
 pub record Handles (row : List ℕ) (end : ℕ) (marks : List ℕ) : Type 0 where
   pub within : end ≤ length row
   pub inside : (k : ℕ) → k < end → Row marks (getD row k 0)
-
--- those handles of a row that are not marked, in turn
-unfoldable pub unmarked : List ℕ → List ℕ → List ℕ
-unmarked marks [] = []
-unmarked marks (h ∷ hs) = cond (row-bit marks h) (unmarked marks hs) (h ∷ unmarked marks hs)
-
--- of the first `end` words of a row these are left
-pub record Left (row : List ℕ) (end : ℕ) (marks : List ℕ) (left : ℕ) (row' : List ℕ) : Type 0 where
-  pub within : left ≤ end
-  pub words : take left row' ≡ unmarked marks (take end row)
 
 -- of the first `end` words of a row those are kept, in turn, that are put on the list whose blocks are marked, and they are marked
 pub record Kept (row : List ℕ) (end : ℕ) (marks : List ℕ) (kept : ℕ) (row' marks' : List ℕ) : Type 0 where

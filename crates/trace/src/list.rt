@@ -4,9 +4,8 @@ ghost use mathlib.Core.List.{[]};
 ghost use Prim.Native.Nat.{_<_};
 ghost use lib.ListN.{length, getD};
 ghost use Rattle.ways.proofs.Put.{put-all};
-ghost use Rattle.trace.specs.List.{On, Root, PutRoot, Roots, Handles, Left, Kept};
+ghost use Rattle.trace.specs.List.{On, Root, PutRoot, Roots, Handles, Kept};
 use crate::marks::clear;
-use crate::marks::is_new;
 use crate::marks::mark;
 use words::slices::wide;
 
@@ -46,25 +45,9 @@ pub fn put_roots(n: u32, roots: &[u32], list: &mut [u32], marks: &mut [u32]) -> 
     c
 }
 
-// Drops from the first `end` words of a row, in place, those that are marked, and gives how many are left. It
-// only reads the marks, so no word waits for what was stored before it.
-fn drop_marked(row: &mut [u32], end: usize, marks: &[u32]) -> usize
-    requires { ⌜ Handles (now row) end (now marks) ⌝ }
-    ensures { λ r. ⌜ Left (now (row .entry)) end (now (marks .entry)) r (now (row .exit)) ⌝ }
-{
-    let mut left = 0;
-    let mut k = 0;
-    while k < end {
-        let h = row[k];
-        row[left] = h;
-        left += wide(is_new(marks, h));
-        k += 1;
-    }
-    left
-}
-
-// The same, and marks the rest: of a handle that comes twice the second is dropped.
-fn mark_rest(row: &mut [u32], end: usize, marks: &mut [u32]) -> usize
+// Drops from the first `end` words of a row, in place, those that are 0 or marked, and marks the rest. No
+// branch depends on what the words are. Gives how many are left.
+pub fn keep_new(row: &mut [u32], end: usize, marks: &mut [u32]) -> usize
     requires { ⌜ Handles (now row) end (now marks) ⌝ }
     ensures { λ r. ⌜ Kept (now (row .entry)) end (now (marks .entry)) r (now (row .exit)) (now (marks .exit)) ⌝ }
 {
@@ -77,15 +60,4 @@ fn mark_rest(row: &mut [u32], end: usize, marks: &mut [u32]) -> usize
         k += 1;
     }
     kept
-}
-
-// Drops from the first `end` words of a row, in place, those that are 0 or marked, and marks the rest. No
-// branch depends on what the words are. Most are marked already: a first pass drops these, and few are left
-// for the second, where each word waits for the marks of those before it. Gives how many are kept.
-pub fn keep_new(row: &mut [u32], end: usize, marks: &mut [u32]) -> usize
-    requires { ⌜ Handles (now row) end (now marks) ⌝ }
-    ensures { λ r. ⌜ Kept (now (row .entry)) end (now (marks .entry)) r (now (row .exit)) (now (marks .exit)) ⌝ }
-{
-    let left = drop_marked(row, end, marks);
-    mark_rest(row, left, marks)
 }

@@ -1,12 +1,9 @@
 // The row of marks: a bit for each handle, where crate arena's Rows has it. That of handle 0 is always set, so 0
 // counts as marked with no test of its own.
-ghost use mathlib.Core.Path.{_≡_};
-ghost use mathlib.Core.Bool.{not};
 ghost use mathlib.Core.List.{[]};
 ghost use Prim.Native.Nat.{_+_, _*_, _≤_};
 ghost use lib.ListN.{length};
-ghost use Rattle.model.specs.Below.{one-if};
-ghost use Rattle.arena.specs.Rows.{row-bit, Marked};
+ghost use Rattle.arena.specs.Rows.{Marked};
 ghost use Rattle.trace.specs.Marks.{Row, Mark};
 use words::bits::with_bit;
 use words::slices::wide;
@@ -23,16 +20,6 @@ pub fn clear(marks: &mut [u32], n: u32)
         j += 1;
     }
     marks[0] = 0x8000_0000;
-}
-
-// 1 for a handle that is not marked, and 0 for one that is.
-pub fn is_new(marks: &[u32], h: u32) -> u32
-    requires { ⌜ Row (now marks) h ⌝ }
-    ensures { λ r. ⌜ (r ≡ one-if (not (row-bit (now (marks .entry)) h))) × (r ≤ 1) ⌝ }
-{
-    let x = wide(h) + 31;
-    let b = (x % 32) as u32;
-    1 - (marks[x / 32] >> b) % 2
 }
 
 // Marks the block of a handle, and says whether that is new: 0 for handle 0 and for a block that is
