@@ -22,36 +22,8 @@ use Rattle.laws.proofs.Splice.{length-part, word-part, part-part}
 use Rattle.words.proofs.ClassLaws.{bounds-class, blocks-fill}
 use Rattle.words.proofs.HandleLaws.{block-in-arena}
 use Rattle.taken.specs.Gather.{all-words, header-word-right, header-right, references-in, headed, references-of, GatheredBelow, Of, AtFull}
-use Rattle.taken.specs.Beside.{Beside, beside, column-word, InOrder, InColumns, AddedBeside}
+use Rattle.taken.specs.Beside.{Beside, beside, column-word, FieldsPut, InColumns, AddedBeside}
 use Rattle.taken.proofs.GatherLaws.{all-words-take, all-words-part, header-room, headed-taken, references-taken, block-handed, of-class}
-
--- ---- putting columns
-
-pub in-order-none : (f : ℕ → ℕ) (refs : List ℕ) (at : ℕ) → length refs ≡ 4096 → InOrder f refs at 0 refs
-in-order-none f refs at e = record { long = e; before = λ o _. refl; words = λ k l. absurd (omega arith) }
-
-pub in-order-step : {f : ℕ → ℕ} {refs refs' : List ℕ} {at k : ℕ} (v : ℕ) → InOrder f refs at k refs' → v ≡ f k → at + k < 4096
-    → InOrder f refs at (k + 1) (set refs' (at + k) v)
-in-order-step {f} {refs} {refs'} {at} {k} v h e l = record {
-  long = length-set refs' (at + k) v ∙ h .long;
-  before = λ o u. getD-set-other refs' (at + k) o v 0 (λ q. omega arith) ∙ h .before o u;
-  words = below-more (λ (i : ℕ). word (set refs' (at + k) v) (at + i) ≡ f i) k
-      (λ i u. getD-set-other refs' (at + k) (at + i) v 0 (λ q. omega arith) ∙ h .words i u)
-      (getD-set-same refs' (at + k) v 0 (omega (arith, h .long)) ∙ e);
-}
-
-pub in-columns-none : (words : List ℕ) (size : ℕ) (refs : List ℕ) (m : ℕ) → length refs ≡ 4096 → InColumns words size refs m 0 refs
-in-columns-none words size refs m e = record { long = e; before = λ o _. refl; fields = λ f k l u. absurd (omega arith) }
-
-pub in-columns-step : {words : List ℕ} {size : ℕ} {refs refs' refs″ : List ℕ} {m n : ℕ} → InColumns words size refs m n refs'
-    → InOrder (column-word words size n) refs' (m + 32 * n) 32 refs″ → InColumns words size refs m (n + 1) refs″
-in-columns-step {words} {size} {refs} {refs'} {refs″} {m} {n} h g = record {
-  long = g .long;
-  before = λ o u. g .before o (omega arith) ∙ h .before o u;
-  fields = λ f k l u.
-      below-more (λ (e : ℕ). (k : ℕ) → k < 32 → word refs″ (m + 32 * e + k) ≡ column-word words size e k) n
-      (λ e v j w. g .before (m + 32 * e + j) (omega arith) ∙ h .fields e j v w) (g .words) f l k u;
-}
 
 -- ---- tests, field by field and block by block
 
@@ -85,7 +57,7 @@ module _ {words : List ℕ} {size : ℕ} (b : Beside words size) where
   header k = ap (word words) (sym (add-zero (size * k))) ∙ sym (block-word k 0 (omega (arith, b .some)))
 
   -- one header more: `wrong` counts those that are not right
-  pub wrong-step : (i wrong k v : ℕ) → eqb wrong 0 ≡ all-below k (λ k. header-right i (beside words size k))
+  wrong-step : (i wrong k v : ℕ) → eqb wrong 0 ≡ all-below k (λ k. header-right i (beside words size k))
       → v ≡ one-if (not (header-word-right i (word words (size * k)))) → eqb (wrong + v) 0 ≡ all-below (k + 1) (λ k. header-right i (beside words size k))
   wrong-step i wrong k v h e =
       ap (λ (x : ℕ). eqb (wrong + x) 0) (e ∙ ap (λ (x : ℕ). one-if (not (header-word-right i x))) (header k))
@@ -96,6 +68,38 @@ module _ {words : List ℕ} {size : ℕ} (b : Beside words size) where
       go : (t : Bool) → eqb (wrong + one-if (not t)) 0 ≡ (eqb wrong 0 && t)
       go true = ap (λ (x : ℕ). eqb x 0) (add-zero wrong) ∙ sym (and-true (eqb wrong 0))
       go false = ne-eqb (wrong + 1) 0 (λ z. omega arith) ∙ sym (and-false (eqb wrong 0))
+
+  -- ---- putting columns
+
+  pub fields-none : (k : ℕ) (refs : List ℕ) (m : ℕ) → length refs ≡ 4096 → FieldsPut words size k refs m 0 refs
+  fields-none k refs m e = record { long = e; others = λ o _. refl; fields = λ f l. absurd (omega arith) }
+
+  pub fields-step : {k : ℕ} {refs refs' : List ℕ} {m n : ℕ} (v : ℕ) → FieldsPut words size k refs m n refs' → v ≡ column-word words size n k → m + 32 * n + k < 4096
+      → FieldsPut words size k refs m (n + 1) (set refs' (m + 32 * n + k) v)
+  fields-step {k} {refs} {refs'} {m} {n} v h e l = record {
+    long = length-set refs' (m + 32 * n + k) v ∙ h .long;
+    others = λ o apart.
+        getD-set-other refs' (m + 32 * n + k) o v 0 (apart n (omega arith)) ∙ h .others o (λ f u. apart f (omega arith));
+    fields = below-more (λ (f : ℕ). word (set refs' (m + 32 * n + k) v) (m + 32 * f + k) ≡ column-word words size f k) n
+        (λ f u. getD-set-other refs' (m + 32 * n + k) (m + 32 * f + k) v 0 (λ q. omega arith) ∙ h .fields f u)
+        (getD-set-same refs' (m + 32 * n + k) v 0 (omega (arith, h .long)) ∙ e);
+  }
+
+  pub columns-none : (i : ℕ) (refs : List ℕ) (m : ℕ) → length refs ≡ 4096 → InColumns i words size refs m 0 refs 0
+  unfolding all-below
+  columns-none i refs m e = record { long = e; before = λ o _. refl; fields = λ f k l u. absurd (omega arith); headers = refl }
+
+  pub columns-step : {i : ℕ} {refs refs' refs″ : List ℕ} {m n wrong v : ℕ} → InColumns i words size refs m n refs' wrong
+      → FieldsPut words size n refs' m (size - 1) refs″ → n < 32 → v ≡ one-if (not (header-word-right i (word words (size * n))))
+      → InColumns i words size refs m (n + 1) refs″ (wrong + v)
+  columns-step {i} {refs} {refs'} {refs″} {m} {n} {wrong} {v} h g l e = record {
+    long = g .long;
+    before = λ o u. g .others o (λ f q z. omega arith) ∙ h .before o u;
+    fields = λ f k u.
+        below-more (λ (k : ℕ). word refs″ (m + 32 * f + k) ≡ column-word words size f k) n
+        (λ k q. g .others (m + 32 * f + k) (λ f′ _ z. omega arith) ∙ h .fields f k u q) (g .fields f (omega arith)) k;
+    headers = wrong-step i wrong n v (h .headers) e;
+  }
 
   -- the words of a column at one block: its references, and zeros
   one-block : (k : ℕ) → k < 32 → r-in (beside words size k) < size → (p : ℕ → Bool) → p 0 ≡ true
@@ -123,12 +127,11 @@ module _ {words : List ℕ} {size : ℕ} (b : Beside words size) where
       has-not : (f : ℕ) → r ≤ f → column-word words size f k ≡ 0
       has-not f u = ap (λ (t : Bool). cond t (word words (size * k + 1 + f)) 0) (le-ltb f (field 12 12 (word words (size * k))) (omega (arith, count)))
 
-  pub added-beside : {refs refs' : List ℕ} {m i : ℕ} {right : Bool} → block-words i ≡ size → length refs ≡ 4096 → m + 32 * (size - 1) ≤ 4096
-      → InColumns words size refs m (size - 1) refs' → right ≡ all-below 32 (λ k. header-right i (beside words size k))
-      → AddedBeside i words size refs m refs' right (m + 32 * (size - 1))
-  added-beside {refs} {refs'} {m} {i} {right} own long room c h = record {
+  pub added-beside : {refs refs' : List ℕ} {m i wrong : ℕ} → block-words i ≡ size → length refs ≡ 4096 → m + 32 * (size - 1) ≤ 4096
+      → InColumns i words size refs m 32 refs' wrong → AddedBeside i words size refs m refs' (eqb wrong 0) (m + 32 * (size - 1))
+  added-beside {refs} {refs'} {m} {i} {wrong} own long room c = record {
     long = c .long;
-    headers = h;
+    headers = c .headers;
     counted = refl;
     tests = λ yes-right p none.
         all-words-take p (m + 32 * n) refs' (omega (arith, c .long))
@@ -137,10 +140,10 @@ module _ {words : List ℕ} {size : ℕ} (b : Beside words size) where
         (all-below-ext m (λ o. p (word refs' o)) (λ o. p (word refs o)) (λ o l. ap p (c .before o l)) ∙ sym (all-words-take p m refs (omega (arith, long))))
         (by-rows n (λ o. p (word refs' (m + o)))
         ∙ all-below-ext n (λ f. all-below 32 (λ k. p (word refs' (m + (32 * f + k))))) (λ f. all-below 32 (λ k. p (column-word words size f k)))
-        (λ f l. all-below-ext 32 (λ k. p (word refs' (m + (32 * f + k)))) (λ k. p (column-word words size f k)) (λ k u. ap p (ap (word refs') (omega arith) ∙ c .fields f k l u)))
+        (λ f l. all-below-ext 32 (λ k. p (word refs' (m + (32 * f + k)))) (λ k. p (column-word words size f k)) (λ k u. ap p (ap (word refs') (omega arith) ∙ c .fields f k (omega arith) u)))
         ∙ exchanged n 32 (λ f k. p (column-word words size f k))
         ∙ all-below-ext 32 (λ k. all-below n (λ f. p (column-word words size f k))) (λ k. all-words p (references-in (beside words size k)))
-        (λ k u. one-block k u (omega (arith, own, header-room i (beside words size k) (all-below-at 32 (λ k. header-right i (beside words size k)) (sym h ∙ yes-right) k u))) p none));
+        (λ k u. one-block k u (omega (arith, own, header-room i (beside words size k) (all-below-at 32 (λ k. header-right i (beside words size k)) (sym (c .headers) ∙ yes-right) k u))) p none));
   }
     where
       n : ℕ

@@ -25,7 +25,7 @@ use Rattle.laws.proofs.Below.{all-below-step, count-below-ext, count-below-add}
 use Rattle.laws.proofs.Splice.{length-part}
 use Rattle.laws.proofs.Bits.{bit-zero, bit-low, bit-ones, bit-past, bit-pow, bit-shift, bit-and, bit-or, bit-word-of-bits, word-of-bits-lt, word-of-bits-ext, word-ext}
 use Rattle.arena.specs.Rows.{row-bit}
-use Rattle.taken.specs.Row.{asked-bit, TakenRow, row-taken, row-none-or-taken, Limit, row-word, Filled, Blank, Fill, taken-word, Segment}
+use Rattle.taken.specs.Row.{asked-bit, TakenRow, row-taken, row-none-or-taken, Limit, row-word, Filled, Blank, Fill, taken-word, Segment, AskedBelow}
 
 -- ---- the word of the ones below a limit
 
@@ -348,10 +348,6 @@ or-below a b = go (ltb a 262144) refl (ltb b 262144) refl
     go true s true t = lt-ltb (bitOr a b) 262144 (or-lt 18 a b (ltb-true a 262144 s) (ltb-true b 262144 t))
     go true s false t = le-ltb (bitOr a b) 262144 (omega (arith, ltb-false b 262144 t, or-add-and a b, and-le-l a b))
     go false s u t = le-ltb (bitOr a b) 262144 (omega (arith, ltb-false a 262144 s, or-add-and a b, and-le-r a b))
-
--- the words before p have been asked: `all` has the bits that theirs have in common, and `over` every bit of any of them
-pub record AskedBelow (row words : List ℕ) (p all over : ℕ) : Type 0 where
-  pub so-far : (ltb over 262144 && bit all 0) ≡ every p (λ k. row-none-or-taken row (getD words k 0))
 
 pub asked-no-word : (row words : List ℕ) → AskedBelow row words 0 1 0
 unfolding every

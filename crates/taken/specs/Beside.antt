@@ -2,10 +2,11 @@
 -- Assumes nothing.
 use Prim.Native.Nat.{ℕ, _+_, _-_, _*_, _≤_, _<_}
 use mathlib.Core.Path.{_≡_}
+use mathlib.Core.Logic.{_≢_}
 use mathlib.Core.Bool.{Bool, true, cond, _&&_}
 use mathlib.Core.List.{List}
 use lib.ListN.{length, take}
-use lib.Dec.{ltb}
+use lib.Dec.{eqb, ltb}
 use Rattle.model.specs.Below.{all-below}
 use Rattle.model.specs.Word.{word, field, part}
 use Rattle.model.specs.Class.{block-words}
@@ -33,30 +34,26 @@ pub record InColumn (words : List ℕ) (size f k : ℕ) : Type 0 where
   pub field : f + 1 < size
   pub block : k < 32
 
--- ---- putting one field of each, and all fields
+-- ---- putting the references of one block, and of all
 
-pub record Column (words : List ℕ) (size f : ℕ) (refs : List ℕ) (at : ℕ) : Type 0 where
+pub record Fields (words : List ℕ) (size k : ℕ) (refs : List ℕ) (m : ℕ) : Type 0 where
   pub beside : Beside words size
-  pub field : f + 1 < size
-  pub long : length refs ≡ 4096
-  pub room : at + 32 ≤ 4096
-
--- the words from `at` on are the first n of f, and those before are as they were
-pub record InOrder (f : ℕ → ℕ) (refs : List ℕ) (at n : ℕ) (refs' : List ℕ) : Type 0 where
-  pub long : length refs' ≡ 4096
-  pub before : (o : ℕ) → o < at → word refs' o ≡ word refs o
-  pub words : (k : ℕ) → k < n → word refs' (at + k) ≡ f k
-
-pub record Columns (words : List ℕ) (size : ℕ) (refs : List ℕ) (m : ℕ) : Type 0 where
-  pub beside : Beside words size
+  pub block : k < 32
   pub long : length refs ≡ 4096
   pub room : m + 32 * (size - 1) ≤ 4096
 
--- the first n fields
-pub record InColumns (words : List ℕ) (size : ℕ) (refs : List ℕ) (m n : ℕ) (refs' : List ℕ) : Type 0 where
+-- the first n references of block k are put, and no other word is changed
+pub record FieldsPut (words : List ℕ) (size k : ℕ) (refs : List ℕ) (m n : ℕ) (refs' : List ℕ) : Type 0 where
+  pub long : length refs' ≡ 4096
+  pub others : (o : ℕ) → ((f : ℕ) → f < n → o ≢ m + 32 * f + k) → word refs' o ≡ word refs o
+  pub fields : (f : ℕ) → f < n → word refs' (m + 32 * f + k) ≡ column-word words size f k
+
+-- those of the first n blocks are, and `wrong` of their headers are not right
+pub record InColumns (i : ℕ) (words : List ℕ) (size : ℕ) (refs : List ℕ) (m n : ℕ) (refs' : List ℕ) (wrong : ℕ) : Type 0 where
   pub long : length refs' ≡ 4096
   pub before : (o : ℕ) → o < m → word refs' o ≡ word refs o
-  pub fields : (f k : ℕ) → f < n → k < 32 → word refs' (m + 32 * f + k) ≡ column-word words size f k
+  pub fields : (f k : ℕ) → f + 1 < size → k < n → word refs' (m + 32 * f + k) ≡ column-word words size f k
+  pub headers : eqb wrong 0 ≡ all-below n (λ k. header-right i (beside words size k))
 
 -- asked for 32 blocks of class i, and what they add to the references that are gathered already
 pub record AddingBeside (i : ℕ) (words : List ℕ) (size : ℕ) (refs : List ℕ) (m : ℕ) : Type 0 where

@@ -5,8 +5,9 @@ use mathlib.Core.Path.{_≡_}
 use mathlib.Core.Logic.{_⊎_}
 use mathlib.Core.Bool.{Bool, true, false, not, _&&_, _||_}
 use mathlib.Core.List.{List}
-use lib.ListN.{length}
+use lib.ListN.{length, getD}
 use lib.Dec.{eqb, ltb}
+use Rattle.model.specs.Below.{all-below}
 use Rattle.model.specs.Word.{word, bit, word-of-bits}
 use Rattle.model.specs.Class.{is-class, blocks, words-for}
 use Rattle.model.specs.Layout.{arena-length}
@@ -27,6 +28,19 @@ row-none-or-taken row h = ltb h 262144 && asked-bit row h
 
 abbrev pub row-taken : List ℕ → ℕ → Bool
 row-taken row h = not (eqb h 0) && row-none-or-taken row h
+
+-- ---- asking it of many words
+
+-- the words before p have been asked: `all` has the bits that theirs have in common, and `over` every bit of any of them
+pub record AskedBelow (row words : List ℕ) (p all over : ℕ) : Type 0 where
+  pub so-far : (ltb over 262144 && bit all 0) ≡ all-below p (λ k. row-none-or-taken row (getD words k 0))
+
+-- so many more, and all that are left
+abbrev pub AskedMore : List ℕ → List ℕ → ℕ → ℕ → ℕ → ℕ → ℕ → ℕ → Type 0
+AskedMore row words p n all over all' over' = AskedBelow row words p all over → AskedBelow row words (p + n) all' over'
+
+abbrev pub AskedAll : List ℕ → List ℕ → ℕ → ℕ → ℕ → ℕ → ℕ → Type 0
+AskedAll row words p all over all' over' = AskedBelow row words p all over → AskedBelow row words (length words) all' over'
 
 -- ---- what is asked
 

@@ -7,13 +7,12 @@
 ghost use mathlib.Core.Path.{_≡_};
 ghost use mathlib.Core.Bool.{not};
 ghost use Prim.Native.Nat.{_+_, _-_, _*_, _<_, _≤_};
-ghost use lib.Dec.{eqb};
-ghost use Rattle.model.specs.Below.{one-if, all-below};
+ghost use Rattle.model.specs.Below.{one-if};
 ghost use Rattle.model.specs.Word.{part};
 ghost use Rattle.model.specs.Class.{blocks};
 ghost use Rattle.model.specs.Layout.{block-at};
-ghost use Rattle.taken.specs.Gather.{header-word-right, header-right, Copying, Copied, Putting, Adding, Added, GatheredBelow, AtBlock, AtWord, AtFull, From, AtSegment};
-ghost use Rattle.taken.specs.Beside.{Beside, beside, reference-or-none, InColumn, column-word, Column, InOrder, Columns, InColumns, AddingBeside, AddedBeside};
+ghost use Rattle.taken.specs.Gather.{header-word-right, Copying, Copied, Putting, Adding, Added, GatheredBelow, AtBlock, AtWord, AtFull, From, AtSegment};
+ghost use Rattle.taken.specs.Beside.{reference-or-none, InColumn, column-word, Fields, FieldsPut, InColumns, AddingBeside, AddedBeside};
 use arena::block_of;
 use model::BlockIndex;
 use words::class::blocks;
@@ -101,20 +100,6 @@ fn gather_block(arena: &[u32], of: Member, k: u32, refs: &mut [u32; 4096], m: us
     add_block(block, of.class, refs, m)
 }
 
-// How many headers are wrong of 32 blocks that stand side by side.
-fn wrong_headers(words: &[u32], size: usize, class: u32) -> u32
-    requires { ⌜ Beside (now words) size ⌝ }
-    ensures { λ r. ⌜ eqb r 0 ≡ all-below 32 (λ k. header-right class (beside (now (words .entry)) size k)) ⌝ }
-{
-    let mut wrong: u32 = 0;
-    let mut k: usize = 0;
-    while k < 32 {
-        wrong += is_wrong(words[begin(size, k)], class);
-        k += 1;
-    }
-    wrong
-}
-
 // 1 for a wrong header, 0 for a right one.
 fn is_wrong(w: u32, class: u32) -> u32
     ensures { λ r. ⌜ (r ≡ one-if (not (header-word-right class w))) × (r ≤ 1) ⌝ }
@@ -146,28 +131,31 @@ fn column_word(words: &[u32], size: usize, f: usize, k: usize) -> u32
     reference_or_none(words[header], f, words[header + 1 + f])
 }
 
-// Puts reference f of each of 32 blocks, from word `at` on.
-fn put_column(words: &[u32], size: usize, f: usize, refs: &mut [u32; 4096], at: usize)
-    requires { ⌜ Column (now words) size f (now refs) at ⌝ }
-    ensures { λ _. ⌜ InOrder (column-word (now (words .entry)) size f) (now (refs .entry)) at 32 (now (refs .exit)) ⌝ }
-{
-    let mut k: usize = 0;
-    while k < 32 {
-        refs[at + k] = column_word(words, size, f, k);
-        k += 1;
-    }
-}
-
-// Puts all of them behind the first m words, field by field.
-fn put_columns(words: &[u32], size: usize, refs: &mut [u32; 4096], m: usize)
-    requires { ⌜ Columns (now words) size (now refs) m ⌝ }
-    ensures { λ _. ⌜ InColumns (now (words .entry)) size (now (refs .entry)) m (size - 1) (now (refs .exit)) ⌝ }
+// Puts the references of block k of 32, each at place k of its field's 32 words, from word m on.
+fn put_fields(words: &[u32], size: usize, k: usize, refs: &mut [u32; 4096], m: usize)
+    requires { ⌜ Fields (now words) size k (now refs) m ⌝ }
+    ensures { λ _. ⌜ FieldsPut (now (words .entry)) size k (now (refs .entry)) m (size - 1) (now (refs .exit)) ⌝ }
 {
     let mut f: usize = 0;
     while f + 1 < size {
-        put_column(words, size, f, refs, m + 32 * f);
+        refs[m + 32 * f + k] = column_word(words, size, f, k);
         f += 1;
     }
+}
+
+// The same of all of them. Gives how many headers are wrong.
+fn put_columns(words: &[u32], size: usize, class: u32, refs: &mut [u32; 4096], m: usize) -> u32
+    requires { ⌜ AddingBeside class (now words) size (now refs) m ⌝ }
+    ensures { λ r. ⌜ InColumns class (now (words .entry)) size (now (refs .entry)) m 32 (now (refs .exit)) r ⌝ }
+{
+    let mut wrong: u32 = 0;
+    let mut k: usize = 0;
+    while k < 32 {
+        put_fields(words, size, k, refs, m);
+        wrong += is_wrong(words[begin(size, k)], class);
+        k += 1;
+    }
+    wrong
 }
 
 fn gather_beside(
@@ -180,9 +168,9 @@ fn gather_beside(
     requires { ⌜ AddingBeside class (now words) size (now refs) m ⌝ }
     ensures { λ g. ⌜ AddedBeside class (now (words .entry)) size (now (refs .entry)) m (now (refs .exit)) (g .right) (g .count) ⌝ }
 {
-    put_columns(words, size, refs, m);
+    let wrong = put_columns(words, size, class, refs, m);
     Gathered {
-        right: wrong_headers(words, size, class) == 0,
+        right: wrong == 0,
         count: m + 32 * (size - 1),
     }
 }

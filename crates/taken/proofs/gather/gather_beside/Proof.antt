@@ -7,24 +7,19 @@ use Rattle.taken.proofs.gather.gather_beside.Tie as tie
 put-columns-requires : tie.Need-put-columns-requires
 put-columns-requires c κs = search needs
 
-wrong-headers-requires : tie.Need-wrong-headers-requires
-wrong-headers-requires c κs = search needs
+sub-t9 : tie.Need-sub-t9
+sub-t9 c = search needs
 
-sub-t10 : tie.Need-sub-t10
-sub-t10 c = search needs
+mul-t10 : tie.Need-mul-t10
+mul-t10 c = search needs
 
-mul-t11 : tie.Need-mul-t11
-mul-t11 c = search needs
-
-add-t12 : tie.Need-add-t12
-add-t12 c = search needs
+add-t11 : tie.Need-add-t11
+add-t11 c = search needs
 
 returns : tie.Need-returns
 returns c =
-    let p = c .before .before .before .before .pre in
-    added-beside (p .beside) (p .own) (p .long) (p .room) (c .before .put-columns .ensures) (c .wrong-headers .ensures)
+    let p = c .before .before .before .pre in
+    added-beside (p .beside) (p .own) (p .long) (p .room) (c .put-columns .ensures)
 
 pub gather-beside-spec : {M : Type 1} → statement M
-gather-beside-spec =
-    tie.close
-    (tie.spec put-columns-requires wrong-headers-requires sub-t10 mul-t11 add-t12 returns)
+gather-beside-spec = tie.close (tie.spec put-columns-requires sub-t9 mul-t10 add-t11 returns)

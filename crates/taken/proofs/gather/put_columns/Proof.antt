@@ -1,54 +1,63 @@
--- `taken::gather::put_columns` meets its contract. The loop's invariant: the first f fields are put.
+-- `taken::gather::put_columns` meets its contract. The loop's invariant: the references of the first k blocks are put, and their wrong headers counted.
 -- Assumes nothing.
-use Prim.Native.Nat.{_+_, _-_, _*_, _≤_}
+use Prim.Native.Nat.{ℕ, _+_, _-_, _≤_}
 use native.Mathlib.Omega.{arith}
-use mathlib.Core.Path.{_≡_}
+use mathlib.Core.Path.{_≡_, ap, _∙_}
+use mathlib.Core.Bool.{not}
 use borrow.Author.Needs.{needs}
+use Rattle.model.specs.Below.{one-if}
+use Rattle.model.specs.Word.{word}
+use Rattle.taken.specs.Gather.{header-word-right}
 use Rattle.taken.specs.Beside.{InColumns}
-use Rattle.taken.proofs.BesideLaws.{in-columns-none, in-columns-step}
+use Rattle.taken.proofs.BesideLaws.{columns-none, columns-step}
 use Rattle.taken.proofs.gather.put_columns.Statement.{statement}
 use Rattle.taken.proofs.gather.put_columns.Tie as tie
 
 abbrev Inv-loop : tie.InvT-loop
-Inv-loop words size refs₀ m f₀ refs f = (f + 1 ≤ size) × InColumns words size refs₀ m f refs
+Inv-loop words size class refs₀ m wrong₀ k₀ refs wrong k = (k ≤ 32) × (wrong ≤ k) × InColumns class words size refs₀ m k refs wrong
 
 abbrev μ-loop : tie.MeasureT-loop
-μ-loop words size refs₀ m f₀ refs f = size - f
+μ-loop words size class refs₀ m wrong₀ k₀ refs wrong k = 32 - k
 
 loop-holds : tie.Need-loop-holds Inv-loop μ-loop
-loop-holds c = (omega (arith, c .before .pre .beside .some), in-columns-none _ _ _ _ (c .before .pre .long))
+loop-holds c = (omega arith, omega arith, columns-none (c .before .pre .beside) _ _ _ (c .before .pre .long))
 
-add-loop : tie.Need-add-loop Inv-loop μ-loop
-add-loop c = omega (arith, c .loop .inv .0, c .before .before .pre .beside .few)
+put-fields-requires : tie.Need-put-fields-requires Inv-loop μ-loop
+put-fields-requires c κs = search needs
 
-mul-put-column : tie.Need-mul-put-column Inv-loop μ-loop
-mul-put-column c = search needs
+begin-requires : tie.Need-begin-requires Inv-loop μ-loop
+begin-requires c κs = search needs
 
-add-put-column : tie.Need-add-put-column Inv-loop μ-loop
-add-put-column c = search needs
+mul-is-wrong : tie.Need-mul-is-wrong Inv-loop μ-loop
+mul-is-wrong c = search needs
 
-put-column-requires : tie.Need-put-column-requires Inv-loop μ-loop
-put-column-requires c κs =
-    let loop = c .before .before .loop in
-    let p = c .before .before .before .before .pre in
-    record { beside = p .beside; field = c .before .loop-test .taken; long = loop .inv .1 .long; room = omega (arith, p .room, c .before .loop-test .taken) }
+shared-slice-read-is-wrong : tie.Need-shared-slice-read-is-wrong Inv-loop μ-loop
+shared-slice-read-is-wrong c = search needs
 
-add-f : tie.Need-add-f Inv-loop μ-loop
-add-f c = search needs
+is-wrong-requires : tie.Need-is-wrong-requires Inv-loop μ-loop
+is-wrong-requires c κs = search needs
+
+add-wrong : tie.Need-add-wrong Inv-loop μ-loop
+add-wrong c = search needs
+
+add-k : tie.Need-add-k Inv-loop μ-loop
+add-k c = search needs
 
 loop-less : tie.Need-loop-less Inv-loop μ-loop
 loop-less c = search needs
 
 loop-again : tie.Need-loop-again Inv-loop μ-loop
 loop-again c =
-    let loop = c .before .before .before .loop in
-    (search needs, in-columns-step (loop .inv .1) (c .put-column .ensures))
+    let a = c .before .before .before .before .before .before .before .before .args in
+    let p = c .before .before .before .before .before .before .before .before .pre in
+    let loop = c .before .before .before .before .before .before .loop in
+    let told = c .is-wrong .ensures .0 ∙ ap (λ (o : ℕ). one-if (not (header-word-right (a .class) (word (a .words .now) o)))) (c .before .before .begin .ensures .0) in
+    (omega arith, omega (arith, loop .inv .1, c .is-wrong .ensures .1), columns-step (p .beside) (loop .inv .2) (c .before .before .before .put-fields .ensures) (search needs) told)
 
 returns : tie.Need-returns Inv-loop μ-loop
 returns c =
-    let loop = c .before .loop in
-    let end : loop .f ≡ c .before .before .before .args .size - 1 = omega (arith, loop .inv .0, c .loop-test .left) in
-    rw end at (loop .inv .1)
+    let end : c .before .loop .k ≡ 32 = omega arith in
+    rw end at (c .before .loop .inv .2)
 
 pub put-columns-spec : {M : Type 1} → statement M
 put-columns-spec =
@@ -57,11 +66,13 @@ put-columns-spec =
     Inv-loop
     μ-loop
     loop-holds
-    add-loop
-    mul-put-column
-    add-put-column
-    put-column-requires
-    add-f
+    put-fields-requires
+    begin-requires
+    mul-is-wrong
+    shared-slice-read-is-wrong
+    is-wrong-requires
+    add-wrong
+    add-k
     loop-less
     loop-again
     returns)
