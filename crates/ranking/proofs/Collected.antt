@@ -2,7 +2,7 @@
 -- afterwards is `collected`.
 -- Assumes nothing.
 use Prim.Native.Nat.{ℕ, _+_, _≤_, _<_}
-use mathlib.Core.Path.{_≡_, sym, ap, ap₂, _∙_}
+use mathlib.Core.Path.{_≡_, refl, sym, ap, ap₂, _∙_}
 use mathlib.Core.Logic.{_⊎_, inl, inr, _≢_}
 use mathlib.Core.Bool.{Bool, true, false, not, cond}
 use mathlib.Core.List.{List, [], _∷_, _++_, append-nil}
@@ -29,12 +29,14 @@ use Rattle.soundness.proofs.Tests.{either}
 use Rattle.soundness.proofs.Facts.{Sound, sound-facts}
 use Rattle.ranking.specs.Anew.{Reached}
 use Rattle.ranking.specs.Live.{marks-of, mark-in, Live}
-use Rattle.ranking.specs.Groups.{pool, Groups}
+use Rattle.ranking.specs.Groups.{pool, group-of}
+use Rattle.ranking.specs.Keys.{Keys}
 use Rattle.ranking.specs.Heads.{rank-by, head-by, Heads}
 use Rattle.ranking.specs.Places.{Places}
 use Rattle.ranking.specs.Records.{with-records, marked-record, Head}
 use Rattle.ranking.proofs.LiveLaws.{live-in-le, mark-listed, live-is}
-use Rattle.ranking.proofs.GroupLaws.{group-used, rank-by-le, stays-is, rank-is, place-is}
+use Rattle.ranking.proofs.GroupLaws.{group-used, stays-is}
+use Rattle.ranking.proofs.KeyLaws.{rank-by-le, key-class, key-group, rank-is, place-is}
 use Rattle.ranking.proofs.RecordLaws.{with-ext}
 
 -- ---- the new arena, part by part
@@ -69,40 +71,43 @@ collected-is ws L places l ten placed =
 
 -- ---- from the marks to the arena
 
-module _ (ws marks : List ℕ) (p : Reached ws marks) (lives groups heads : List ℕ) (counted : Live marks (segments ws) lives)
-    (grouped : Groups ws lives groups) (headed : Heads ws groups lives heads) where
+module _ (ws marks : List ℕ) (p : Reached ws marks) (lives keys heads : List ℕ) (counted : Live marks (segments ws) lives)
+    (keyed : Keys ws lives keys) (headed : Heads keys lives (segments ws) heads) where
   facts : Sound ws
   facts = sound-facts ws (p .is-sound)
 
+  abbrev group : ℕ → ℕ
+  group s = group-of (class ws s) (word lives s)
+
   module _ (s : ℕ) (l : s < segments ws) where
-    head-pool : eqb (word groups s) pool ≡ true → word heads s ≡ 0
+    head-pool : eqb (group s) pool ≡ true → word heads s ≡ 0
     unfolding head-by
-    head-pool e = headed .headed s l ∙ rw e
+    head-pool e = headed .headed s l ∙ rw (key-group ws lives keys keyed s l, e)
 
     -- of a segment that does not go to the pool
-    module _ (e : eqb (word groups s) pool ≡ false) where
+    module _ (e : eqb (group s) pool ≡ false) where
       its-class : is-class (class ws s) ≡ true
       its-class =
-          facts .classed s (record { below = l; used = group-used (class ws s) (word lives s) (ap (λ (g : ℕ). eqb g pool) (sym (grouped .grouped s l)) ∙ e) })
+          facts .classed s (record { below = l; used = group-used (class ws s) (word lives s) e })
 
-      head-is : word heads s ≡ record-head (class ws s) (rank-by ws groups s) (word lives s)
+      head-is : word heads s ≡ record-head (class ws s) (rank-by keys (segments ws) (word keys s)) (word lives s)
       unfolding head-by
-      head-is = headed .headed s l ∙ rw e
+      head-is = headed .headed s l ∙ rw (key-group ws lives keys keyed s l, e, key-class ws lives keys keyed s l)
 
       head-class : field 0 4 (word heads s) ≡ class ws s
       head-class =
           ap (field 0 4) head-is
-          ∙ record-head-class (class ws s) (rank-by ws groups s) (word lives s) (omega (arith, class-bounds (class ws s) its-class))
-          (omega (arith, rank-by-le ws groups s, facts .size .few)) (omega (arith, counted .counted s l, live-in-le marks s))
+          ∙ record-head-class (class ws s) (rank-by keys (segments ws) (word keys s)) (word lives s) (omega (arith, class-bounds (class ws s) its-class))
+          (omega (arith, rank-by-le keys (segments ws) (word keys s), facts .size .few)) (omega (arith, counted .counted s l, live-in-le marks s))
 
       head-some : word heads s ≢ 0
       head-some z = omega (arith, head-class, class-bounds (class ws s) its-class)
 
     -- every head is 0 or has a class
     pub heads-right : Head (word heads s)
-    heads-right = go (either (eqb (word groups s) pool))
+    heads-right = go (either (eqb (group s) pool))
       where
-        go : (eqb (word groups s) pool ≡ true) ⊎ (eqb (word groups s) pool ≡ false) → Head (word heads s)
+        go : (eqb (group s) pool ≡ true) ⊎ (eqb (group s) pool ≡ false) → Head (word heads s)
         go (inl e) = inl (head-pool e)
         go (inr e) = inr (ap is-class (head-class e) ∙ its-class e)
 
@@ -113,7 +118,7 @@ module _ (ws marks : List ℕ) (p : Reached ws marks) (lives groups heads : List
     -- the records are those of the collection
     record-new : (s : ℕ) → s < segments ws → marked-record (word heads s) (marks-of marks s) ≡ new-record ws L s
     unfolding marked-record new-record
-    record-new s l = go (stays ws L s) (stays-is ws L lives groups lives-are grouped s l)
+    record-new s l = go (stays ws L s) refl (stays-is ws L lives lives-are s l)
       where
         bits : List ℕ
         bits = marks-of marks s
@@ -121,23 +126,23 @@ module _ (ws marks : List ℕ) (p : Reached ws marks) (lives groups heads : List
         new : List ℕ
         new = record-words (class ws s) (new-rank ws L s) (live ws L s) (λ k. listed L (handle s k))
 
-        go : (t : Bool) → eqb (word groups s) pool ≡ not t
+        go : (t : Bool) → stays ws L s ≡ t → eqb (group s) pool ≡ not t
             → cond (eqb (word heads s) 0) (replicate 68 0) (word heads s ∷ level-rows (field 0 4 (word heads s)) (mark-in bits)) ≡ cond t new (replicate 68 0)
-        go true e =
-            let used : in-pool ws s ≡ false = group-used (class ws s) (word lives s) (ap (λ (g : ℕ). eqb g pool) (sym (grouped .grouped s l)) ∙ e) in
+        go true t e =
+            let used : in-pool ws s ≡ false = group-used (class ws s) (word lives s) e in
             ap (λ (t : Bool). cond t (replicate 68 0) (word heads s ∷ level-rows (field 0 4 (word heads s)) (mark-in bits))) (ne-eqb (word heads s) 0 (head-some s l e))
-            ∙ ap₂ _∷_ (head-is s l e ∙ ap₂ (record-head (class ws s)) (rank-is ws L lives groups lives-are grouped s l) (lives-are s l used))
+            ∙ ap₂ _∷_ (head-is s l e ∙ ap₂ (record-head (class ws s)) (rank-is ws L lives keys lives-are keyed s l t) (lives-are s l used))
             (ap (λ (i : ℕ). level-rows i (mark-in bits)) (head-class s l e)
             ∙ rows-ext (class ws s) (mark-in bits) (λ k. listed L (handle s k))
             (λ k u. mark-listed ws marks p s l L m k (omega (arith, blocks-most (class ws s) (its-class s l e)))))
-        go false e =
+        go false t e =
             ap (λ (t : Bool). cond t (replicate 68 0) (word heads s ∷ level-rows (field 0 4 (word heads s)) (mark-in bits))) (eq-eqb (word heads s) 0 (head-pool s l e))
 
     -- ---- the whole
 
-    pub all-collected : (places : List ℕ) → Places ws groups places
+    pub all-collected : (places : List ℕ) → Places keys (segments ws) places
         → put (with-records ws (segments ws) (λ s. marked-record (word heads s) (marks-of marks s))) 1 places ≡ collected ws L
     all-collected places placed =
         ap (λ (vs : List ℕ). put vs 1 places) (with-ext ws (segments ws) (λ s. marked-record (word heads s) (marks-of marks s)) (new-record ws L) record-new)
         ∙ collected-is ws L places (omega (arith, facts .size .long)) (placed .long)
-        (λ c l. placed .placed c l ∙ place-is ws L lives groups lives-are grouped (c + 3))
+        (λ c l. placed .placed c l ∙ place-is ws L lives keys lives-are keyed (c + 3))

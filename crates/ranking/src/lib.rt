@@ -3,13 +3,13 @@
 // "Bits, levels and counts become those of the reachable blocks. Segments with count 0 go to the pool. The
 // others are ranked anew: full ones first, then the rest, each group in its former order."
 //
-// First everything is read: how many blocks of each segment are marked, the group that this puts it in, and
-// from groups and former ranks the heads of the new records and the new places. Then everything is written:
+// First everything is read: how many blocks of each segment are marked, the group that this puts it in,
+// and from classes, groups and former ranks the heads of the new records and the new places. Then everything is written:
 // each record with its head and the levels of its marks, and the places. Word 0 and the blocks stay. Shown
 // here: the arena afterwards, word by word, is that of document 01 as crate model states it.
 ghost use Rattle.ranking.specs.Anew.{Reached, Anew};
-use crate::groups::groups;
 use crate::heads::new_heads;
+use crate::keys::keys;
 use crate::live::count;
 use crate::places::new_places;
 use crate::places::write_places;
@@ -18,6 +18,7 @@ use arena::segments;
 
 pub mod groups;
 pub mod heads;
+pub mod keys;
 pub mod levels;
 pub mod live;
 pub mod places;
@@ -29,10 +30,11 @@ pub fn rank_anew(arena: &mut [u32], marks: &[u32])
     requires { ⌜ Reached (now arena) (now marks) ⌝ }
     ensures { λ _. ⌜ Anew (now (arena .entry)) (now (marks .entry)) (now (arena .exit)) ⌝ }
 {
-    let lives = count(marks, segments(arena));
-    let groups = groups(arena, &lives);
-    let heads = new_heads(arena, &groups, &lives);
-    let places = new_places(arena, &groups);
+    let n = segments(arena);
+    let lives = count(marks, n);
+    let keys = keys(arena, &lives);
+    let heads = new_heads(&keys, &lives, n);
+    let places = new_places(&keys, n);
     write_records(arena, &heads, marks);
     write_places(arena, &places);
 }

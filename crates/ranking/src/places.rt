@@ -1,12 +1,13 @@
 // The new allocation places.
 ghost use mathlib.Core.Path.{_≡_};
+ghost use Prim.Native.Nat.{_≤_};
 ghost use Rattle.model.specs.Word.{put};
-ghost use Rattle.ranking.specs.Groups.{Whole};
 ghost use Rattle.ranking.specs.Places.{PlaceFor, place-for, place-by, PlaceOf, Places, WritePlaces};
-use crate::groups::ANY_RANK;
 use crate::groups::FULL;
+use crate::groups::POOL;
 use crate::groups::REST;
-use crate::groups::ranked_in;
+use crate::keys::key;
+use crate::keys::keys_in;
 use words::class::blocks;
 use words::fields::place;
 use words::slices::wide;
@@ -26,23 +27,25 @@ fn place_for(class: u32, full: u32, m: u32) -> u32
     place(m - 1, blocks(class))
 }
 
-fn new_place(arena: &[u32], groups: &[u32; 64], class: u32) -> u32
-    requires { ⌜ PlaceOf (now arena) class ⌝ }
-    ensures { λ r. ⌜ r ≡ place-by (now (arena .entry)) (now (groups .entry)) class ⌝ }
+fn new_place(keys: &[u32; 64], n: u32, class: u32) -> u32
+    requires { ⌜ PlaceOf n class ⌝ }
+    ensures { λ r. ⌜ r ≡ place-by (now (keys .entry)) n class ⌝ }
 {
-    let full = ranked_in(arena, groups, class, FULL, ANY_RANK);
-    let rest = ranked_in(arena, groups, class, REST, ANY_RANK);
-    place_for(class, full, full + rest)
+    let first = key(class, FULL, 0);
+    let full = keys_in(keys, n, first, key(class, REST, 0));
+    let m = keys_in(keys, n, first, key(class + 1, POOL, 0));
+    place_for(class, full, m)
 }
 
-pub fn new_places(arena: &[u32], groups: &[u32; 64]) -> [u32; 10]
-    requires { ⌜ Whole (now arena) ⌝ }
-    ensures { λ r. ⌜ Places (now (arena .entry)) (now (groups .entry)) r ⌝ }
+// The places of all classes, for the keys of n segments.
+pub fn new_places(keys: &[u32; 64], n: u32) -> [u32; 10]
+    requires { ⌜ n ≤ 64 ⌝ }
+    ensures { λ r. ⌜ Places (now (keys .entry)) n r ⌝ }
 {
     let mut places = [0; 10];
     let mut c: u32 = 0;
     while c < 10 {
-        places[wide(c)] = new_place(arena, groups, c + 3);
+        places[wide(c)] = new_place(keys, n, c + 3);
         c += 1;
     }
     places

@@ -11,21 +11,19 @@ use Rattle.ranking.proofs.heads.new_heads.Statement.{statement}
 use Rattle.ranking.proofs.heads.new_heads.Tie as tie
 
 abbrev Inv-loop : tie.InvT-loop
-Inv-loop arena groups lives n heads₀ s₀ heads s = (s ≤ n) × (length heads ≡ 64) × ((t : ℕ) → t < s → word heads t ≡ head-by arena groups lives t)
+Inv-loop keys lives n heads₀ s₀ heads s = (s ≤ n) × (length heads ≡ 64) × ((t : ℕ) → t < s → word heads t ≡ head-by keys lives n t)
 
 abbrev μ-loop : tie.MeasureT-loop
-μ-loop arena groups lives n heads₀ s₀ heads s = n - s
-
-segments-requires : tie.Need-segments-requires Inv-loop μ-loop
-segments-requires c κs = search needs
+μ-loop keys lives n heads₀ s₀ heads s = n - s
 
 loop-holds : tie.Need-loop-holds Inv-loop μ-loop
 loop-holds c = (search needs, refl, λ t l. absurd (omega arith))
 
 new-head-requires : tie.Need-new-head-requires Inv-loop μ-loop
 new-head-requires c κs =
-    let p = c .before .before .before .before .pre in
-    record { few = p .few; long = p .long; there = omega (arith, c .before .before .segments .ensures); fits = p .fits (c .before .loop .s) (omega (arith, c .before .before .segments .ensures)) }
+    let s = c .before .loop .s in
+    let p = c .before .before .pre in
+    record { few = p .few; there = search needs; small = p .small s (omega arith); fits = p .fits s (omega arith) }
 
 wide-requires : tie.Need-wide-requires Inv-loop μ-loop
 wide-requires c κs = search needs
@@ -44,18 +42,19 @@ loop-less c = search needs
 
 loop-again : tie.Need-loop-again Inv-loop μ-loop
 loop-again c =
-    let a = c .before .before .before .before .before .before .args in
-    let x = c .before .before .before .loop in (
+    let x = c .before .before .before .loop in
+    let start = c .before .before .before .before in
+    let a = start .args in (
       omega arith,
       simp length-set (x .inv .1),
-      row-next (x .heads) (head-by (a .arena .now) (a .groups .now) (a .lives .now)) (x .s) (c .wide .result) (c .before .new-head .result) (c .wide .ensures)
-          (omega (arith, c .before .before .before .before .segments .ensures, c .before .before .before .before .before .before .pre .few)) (c .before .new-head .ensures) (x .inv .2),
+      row-next (x .heads) (head-by (a .keys .now) (a .lives .now) (a .n)) (x .s) (c .wide .result) (c .before .new-head .result) (c .wide .ensures)
+          (omega (arith, start .pre .few)) (c .before .new-head .ensures) (x .inv .2),
     )
 
 returns : tie.Need-returns Inv-loop μ-loop
 returns c =
     let x = c .before .loop in
-    record { long = x .inv .1; headed = λ t l. x .inv .2 t (omega (arith, c .before .before .segments .ensures)) }
+    record { long = x .inv .1; headed = λ t l. x .inv .2 t (omega arith) }
 
 pub new-heads-spec : {M : Type 1} → statement M
 new-heads-spec =
@@ -63,7 +62,6 @@ new-heads-spec =
     (tie.spec
     Inv-loop
     μ-loop
-    segments-requires
     loop-holds
     new-head-requires
     wide-requires

@@ -11,10 +11,10 @@ use Rattle.ranking.proofs.places.new_places.Statement.{statement}
 use Rattle.ranking.proofs.places.new_places.Tie as tie
 
 abbrev Inv-loop : tie.InvT-loop
-Inv-loop arena groups places₀ c₀ places c = (c ≤ 10) × (length places ≡ 10) × ((t : ℕ) → t < c → word places t ≡ place-by arena groups (t + 3))
+Inv-loop keys n places₀ c₀ places c = (c ≤ 10) × (length places ≡ 10) × ((t : ℕ) → t < c → word places t ≡ place-by keys n (t + 3))
 
 abbrev μ-loop : tie.MeasureT-loop
-μ-loop arena groups places₀ c₀ places c = 10 - c
+μ-loop keys n places₀ c₀ places c = 10 - c
 
 loop-holds : tie.Need-loop-holds Inv-loop μ-loop
 loop-holds c = (search needs, refl, λ t l. absurd (omega arith))
@@ -42,11 +42,11 @@ loop-less c = search needs
 
 loop-again : tie.Need-loop-again Inv-loop μ-loop
 loop-again c =
-    let a = c .before .before .before .before .before .args in
-    let x = c .before .before .before .loop in (
+    let x = c .before .before .before .loop in
+    let a = c .before .before .before .before .args in (
       omega arith,
       simp length-set (x .inv .1),
-      row-next (x .places) (λ t. place-by (a .arena .now) (a .groups .now) (t + 3)) (x .c) (c .wide .result) (c .before .new-place .result) (c .wide .ensures)
+      row-next (x .places) (λ t. place-by (a .keys .now) (a .n) (t + 3)) (x .c) (c .wide .result) (c .before .new-place .result) (c .wide .ensures)
           (omega arith) (c .before .new-place .ensures) (x .inv .2),
     )
 
