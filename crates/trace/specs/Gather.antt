@@ -1,9 +1,10 @@
 -- Gathering: the references of a run of blocks, end to end in a row.
 -- Assumes nothing.
-use Prim.Native.Nat.{ℕ, _+_, _<_, _≤_}
+use Prim.Native.Nat.{ℕ, _+_, _-_, _<_, _≤_}
 use mathlib.Core.Path.{_≡_}
 use mathlib.Core.Bool.{true}
 use mathlib.Core.List.{List, _++_}
+use lib.Bits.{bitAnd}
 use lib.ListN.{length, getD, take}
 use Rattle.model.specs.Below.{words-below, lists-below}
 use Rattle.model.specs.View.{segments, block, r-in, reference-in}
@@ -12,16 +13,26 @@ use Rattle.model.specs.Sound.{sound}
 
 -- ---- one block
 
--- r words of the arena from place `first` on, and room for them and for eight words behind the first `end` words of a row
-pub record Room (ws : List ℕ) (first r : ℕ) (row : List ℕ) (end : ℕ) : Type 0 where
-  pub within : first + r ≤ length ws
-  pub room : end + r ≤ length row
+-- the mask of the number of a block's words keeps each place among them
+pub record Masked (block : List ℕ) : Type 0 where
+  pub some : 0 < length block
+  pub kept : (o : ℕ) → o < length block → bitAnd o (length block - 1) ≡ o
+
+-- there is room behind the first `end` words of a row for a block's references, and for eight words
+pub record Room (block row : List ℕ) (end : ℕ) : Type 0 where
+  pub masked : Masked block
+  pub within : r-in block < length block
+  pub room : end + r-in block ≤ length row
   pub eight : end + 8 ≤ length row
 
 -- references stand in a row behind its first `end` words, up to `end'`
 pub record Behind (references row : List ℕ) (end end' : ℕ) (row' : List ℕ) : Type 0 where
   pub count : end' ≡ end + length references
   pub words : take end' row' ≡ take end row ++ references
+
+-- a block's first r references do, for any r up to eight
+abbrev pub FirstEight : List ℕ → List ℕ → ℕ → List ℕ → Type 0
+FirstEight block row end row' = (r : ℕ) → r ≤ 8 → r < length block → Behind (words-below r (reference-in block)) row end (end + r) row'
 
 -- the references of the block of a handle, in turn
 abbrev pub references-of : List ℕ → ℕ → List ℕ

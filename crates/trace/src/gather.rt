@@ -2,13 +2,15 @@
 ghost use mathlib.Core.Path.{_≡_};
 ghost use Prim.Native.Nat.{_+_, _<_, _≤_};
 ghost use lib.ListN.{length};
-ghost use Rattle.model.specs.Word.{word, part, put};
-ghost use Rattle.trace.specs.Gather.{references-of, Taken, Room, Behind, Queued, Gathered};
+ghost use Rattle.model.specs.Word.{put};
+ghost use Rattle.model.specs.Below.{words-below};
+ghost use Rattle.model.specs.View.{r-in, reference-in};
+ghost use Rattle.trace.specs.Gather.{references-of, Masked, Taken, Room, Behind, FirstEight, Queued, Gathered};
+use arena::block_of;
 use arena::class;
 use model::Handle;
 use words::fields::header_r;
 use words::handles::index;
-use words::handles::offset;
 use words::handles::segment;
 use words::slices::wide;
 
@@ -24,53 +26,54 @@ pub fn copy(from: &[u32], row: &mut [u32], at: usize)
     }
 }
 
-// The reference in a field, among the words behind a block's header.
-fn reference(from: &[u32], f: usize) -> u32
-    requires { ⌜ f < length (now from) ⌝ }
-    ensures { λ r. ⌜ r ≡ word (now (from .entry)) f ⌝ }
+// The reference in a field, and some word of the block where it has no such field: a block's words are a
+// power of two, so that their mask leads back into the block, with no branch.
+fn reference(block: &[u32], f: usize) -> u32
+    requires { ⌜ Masked (now block) × (f < 8) ⌝ }
+    ensures { λ r. ⌜ (1 + f < length (now (block .entry)) → r ≡ reference-in (now (block .entry)) f) ⌝ }
 {
-    from[f]
+    let mask = block.len() - 1;
+    block[(1 + f) & mask]
 }
 
-// Copies eight of them at once: their number is known beforehand.
-fn copy_eight(from: &[u32], row: &mut [u32], at: usize)
-    requires { ⌜ (length (now from) ≡ 8) × (at + 8 ≤ length (now row)) ⌝ }
-    ensures { λ _. ⌜ now (row .exit) ≡ put (now (row .entry)) at (now (from .entry)) ⌝ }
+// Copies a block's first eight references behind the first `end` words of a row, and where it has fewer,
+// something else behind them.
+fn eight(block: &[u32], row: &mut [u32], end: usize)
+    requires { ⌜ Masked (now block) × (end + 8 ≤ length (now row)) ⌝ }
+    ensures { λ _. ⌜ FirstEight (now (block .entry)) (now (row .entry)) end (now (row .exit)) ⌝ }
 {
     let mut f: usize = 0;
     while f < 8 {
-        row[at + f] = reference(from, f);
+        row[end + f] = reference(block, f);
         f += 1;
     }
 }
 
-// Copies r words of the arena, from place `first` on, behind the first `end` words of a row, and says where
-// they end. Mostly they are few: eight at once then spare a loop whose length cannot be foretold, and what
-// comes along behind the r is no harm.
-fn copy_behind(arena: &[u32], first: usize, r: usize, row: &mut [u32], end: usize) -> usize
-    requires { ⌜ Room (now arena) first r (now row) end ⌝ }
-    ensures { λ r'. ⌜ Behind (part (now (arena .entry)) first r) (now (row .entry)) end r' (now (row .exit)) ⌝ }
+// Copies a block's references behind the first `end` words of a row, and says where they end. Most blocks
+// have few: for them eight at once spare a loop whose length cannot be foretold.
+fn references(block: &[u32], row: &mut [u32], end: usize) -> usize
+    requires { ⌜ Room (now block) (now row) end ⌝ }
+    ensures { λ r. ⌜ Behind (words-below (r-in (now (block .entry))) (reference-in (now (block .entry)))) (now (row .entry)) end r (now (row .exit)) ⌝ }
 {
-    if r <= 8 && first + 8 <= arena.len() {
-        let last = first + 8;
-        copy_eight(&arena[first..last], row, end);
+    let r = wide(header_r(block[0]));
+    if r <= 8 {
+        eight(block, row, end);
         return end + r;
     }
-    let last = first + r;
-    copy(&arena[first..last], row, end);
+    let last = 1 + r;
+    copy(&block[1..last], row, end);
     end + r
 }
 
-// The references of the block of a handle. No block has more than 1,023.
+// The same of the block of a handle: its own words, cut from the middle of the arena. No block has more
+// than 1,023 references.
 fn gather_block(arena: &[u32], n: u32, h: u32, row: &mut [u32], end: usize) -> usize
     requires { ⌜ Taken (now arena) n h × (end + 1023 ≤ length (now row)) ⌝ }
     ensures { λ r. ⌜ Behind (references-of (now (arena .entry)) h) (now (row .entry)) end r (now (row .exit)) × (r ≤ end + 1023) ⌝ }
 {
     let s = segment(Handle(h));
     let i = class(arena, s);
-    let at = offset(n, s, i, index(Handle(h))).0;
-    let r = wide(header_r(arena[at]));
-    copy_behind(arena, at + 1, r, row, end)
+    references(block_of(arena, n, s, i, index(Handle(h))), row, end)
 }
 
 // How many blocks were taken off a queue, and where their references end in the row.

@@ -1,22 +1,23 @@
--- `trace::gather::copy_eight` meets its contract. The loop's invariant: the first f words have been copied. Assumes nothing.
+-- `trace::gather::eight` meets its contract. The loop's invariant: the first f references, if there are as many, have been copied.
+-- Assumes nothing.
 use Prim.Native.Nat.{_-_, _≤_}
-use mathlib.Core.Path.{_≡_}
+use mathlib.Core.Path.{_≡_, refl}
 use native.Mathlib.Omega.{arith}
 use lib.ListN.{length, length-set}
-use lib.Seq.{paste, paste-zero}
 use borrow.Author.Needs.{needs}
-use Rattle.trace.proofs.GatherLaws.{paste-more, paste-all}
-use Rattle.trace.proofs.gather.copy_eight.Statement.{statement}
-use Rattle.trace.proofs.gather.copy_eight.Tie as tie
+use Rattle.trace.proofs.GatherLaws.{First, first-none, first-more}
+use Rattle.trace.proofs.gather.eight.Statement.{statement}
+use Rattle.trace.proofs.gather.eight.Tie as tie
 
 abbrev Inv-loop : tie.InvT-loop
-Inv-loop from row₀ at f₀ row f = (f ≤ 8) × (length row ≡ length row₀) × (row ≡ paste row₀ at from f)
+Inv-loop block row₀ end f₀ row f = (f ≤ 8) × (length row ≡ length row₀) × First block row₀ end f row
 
 abbrev μ-loop : tie.MeasureT-loop
-μ-loop from row₀ at f₀ row f = 8 - f
+μ-loop block row₀ end f₀ row f = 8 - f
 
 loop-holds : tie.Need-loop-holds Inv-loop μ-loop
-loop-holds c = let a = c .before .before .args in (search needs, search needs, paste-zero (a .row .now) (a .at) (a .from .now))
+loop-holds c =
+    let a = c .before .before .args in (omega arith, refl, first-none (a .block .now) (a .row .now) (a .end))
 
 reference-requires : tie.Need-reference-requires Inv-loop μ-loop
 reference-requires c κs = search needs
@@ -38,24 +39,21 @@ loop-less c = search needs
 
 loop-again : tie.Need-loop-again Inv-loop μ-loop
 loop-again c =
-    let a = c .before .before .before .before .before .args in
+    let s = c .before .before .before .before .before in
     let l = c .before .before .loop in (
-      search needs,
+      omega arith,
       simp length-set (l .inv .1),
-      rw (l .inv .2, c .reference .ensures) (paste-more (a .row .now) (a .at) (a .from .now) (l .f) (omega arith) (omega arith)),
+      first-more (s .args .block .now) (s .args .row .now) (s .args .end) (l .f) (l .row) (c .reference .result) (omega arith) (c .reference .ensures) (l .inv .2),
     )
 
 same-length : tie.Need-same-length Inv-loop μ-loop
 same-length c = search needs
 
 returns : tie.Need-returns Inv-loop μ-loop
-returns c =
-    let a = c .before .before .before .before .args in
-    let all : c .before .loop .f ≡ length (a .from .now) = omega arith in
-    rw (c .before .loop .inv .2, all) (paste-all (a .row .now) (a .at) (a .from .now))
+returns c = λ r l u. c .before .loop .inv .2 r (omega arith) u
 
-pub copy-eight-spec : {M : Type 1} → statement M
-copy-eight-spec =
+pub eight-spec : {M : Type 1} → statement M
+eight-spec =
     tie.close
     (tie.spec
     Inv-loop
