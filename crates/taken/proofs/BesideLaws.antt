@@ -12,17 +12,17 @@ use lib.Seq.{getD-set-same, getD-set-other}
 use borrow.Author.Count.{below-more}
 use borrow.Author.Tests.{lt-ltb, le-ltb, ne-eqb}
 use Rattle.model.specs.Below.{one-if, all-below}
-use Rattle.model.specs.Word.{word, field, part}
+use Rattle.model.specs.Word.{word, part}
 use Rattle.model.specs.Class.{is-class, blocks, block-words}
 use Rattle.model.specs.Layout.{arena-length, block-at}
 use Rattle.model.specs.View.{class, block-of, r-in}
 use Rattle.model.specs.Standing.{taken-at}
 use Rattle.laws.proofs.Below.{all-below-at, all-below-intro, all-below-ext, all-below-step, all-below-add, all-below-split}
-use Rattle.laws.proofs.Splice.{length-part, word-part, part-part}
+use Rattle.laws.proofs.Splice.{length-part, part-part}
 use Rattle.words.proofs.ClassLaws.{bounds-class, blocks-fill}
 use Rattle.words.proofs.HandleLaws.{block-in-arena}
-use Rattle.taken.specs.Gather.{all-words, header-word-right, header-right, references-in, headed, references-of, GatheredBelow, Of, AtFull}
-use Rattle.taken.specs.Beside.{Beside, beside, column-word, FieldsPut, InColumns, AddedBeside}
+use Rattle.taken.specs.Gather.{all-words, header-right, references-in, headed, references-of, GatheredBelow, Of, AtFull}
+use Rattle.taken.specs.Beside.{Beside, beside, reference-or-none, FieldsPut, InColumns, AddedBeside}
 use Rattle.taken.proofs.GatherLaws.{all-words-take, all-words-part, header-room, headed-taken, references-taken, block-handed, of-class}
 
 -- ---- tests, field by field and block by block
@@ -46,21 +46,55 @@ by-rows (suc n) q =
     ap (λ (m : ℕ). all-below m q) more ∙ all-below-add (32 * n) 32 q
     ∙ ap (λ (t : Bool). t && all-below 32 (λ k. q (32 * n + k))) (by-rows n q)
 
+-- ---- putting columns
+
+pub fields-none : (b : List ℕ) (k : ℕ) (refs : List ℕ) (m : ℕ) → length refs ≡ 4096 → FieldsPut b k refs m 0 refs
+fields-none b k refs m e = record { long = e; others = λ o _. refl; fields = λ f l. absurd (omega arith) }
+
+pub fields-step : {b : List ℕ} {k : ℕ} {refs refs' : List ℕ} {m n : ℕ} (v : ℕ) → FieldsPut b k refs m n refs' → v ≡ reference-or-none b n → m + 32 * n + k < 4096
+    → FieldsPut b k refs m (n + 1) (set refs' (m + 32 * n + k) v)
+fields-step {b} {k} {refs} {refs'} {m} {n} v h e l = record {
+  long = length-set refs' (m + 32 * n + k) v ∙ h .long;
+  others = λ o apart.
+      getD-set-other refs' (m + 32 * n + k) o v 0 (apart n (omega arith)) ∙ h .others o (λ f u. apart f (omega arith));
+  fields = below-more (λ (f : ℕ). word (set refs' (m + 32 * n + k) v) (m + 32 * f + k) ≡ reference-or-none b f) n
+      (λ f u. getD-set-other refs' (m + 32 * n + k) (m + 32 * f + k) v 0 (λ q. omega arith) ∙ h .fields f u)
+      (getD-set-same refs' (m + 32 * n + k) v 0 (omega (arith, h .long)) ∙ e);
+}
+
+-- ---- one block: its references, and zeros
+
+one-block : (b : List ℕ) → r-in b < length b → (p : ℕ → Bool) → p 0 ≡ true
+    → all-below (length b - 1) (λ f. p (reference-or-none b f)) ≡ all-words p (references-in b)
+unfolding reference-or-none
+one-block b few p none =
+    all-below-split r (length b - 1) (λ f. p (reference-or-none b f)) (omega arith)
+    ∙ ap₂ _&&_ (all-below-ext r (λ f. p (reference-or-none b f)) (λ f. p (word b (1 + f))) (λ f u. ap p (has f u)))
+    (all-below-intro (length b - 1 - r) (λ f. p (reference-or-none b (r + f))) (λ f u. ap p (has-not (r + f) (omega arith)) ∙ none))
+    ∙ and-true (all-below r (λ f. p (word b (1 + f))))
+    ∙ sym (all-words-part p b 1 r (omega arith))
+  where
+    r : ℕ
+    r = r-in b
+
+    has : (f : ℕ) → f < r → reference-or-none b f ≡ word b (1 + f)
+    has f u = ap (λ (t : Bool). cond t (word b (1 + f)) 0) (lt-ltb f r u)
+
+    has-not : (f : ℕ) → r ≤ f → reference-or-none b f ≡ 0
+    has-not f u = ap (λ (t : Bool). cond t (word b (1 + f)) 0) (le-ltb f r u)
+
 module _ {words : List ℕ} {size : ℕ} (b : Beside words size) where
-  within : (k : ℕ) → k < 32 → size * k + size ≤ 32 * size
+  pub within : (k : ℕ) → k < 32 → size * k + size ≤ 32 * size
   within k l = omega (arith, mul-le-mul-left size l, mul-suc size k)
 
-  block-word : (k o : ℕ) → o < size → word (beside words size k) o ≡ word words (size * k + o)
-  block-word k o l = word-part words (size * k) size o l
-
-  header : (k : ℕ) → word words (size * k) ≡ word (beside words size k) 0
-  header k = ap (word words) (sym (add-zero (size * k))) ∙ sym (block-word k 0 (omega (arith, b .some)))
+  pub beside-long : (k : ℕ) → k < 32 → length (beside words size k) ≡ size
+  beside-long k l = length-part words (size * k) size (omega (arith, within k l, b .long))
 
   -- one header more: `wrong` counts those that are not right
   wrong-step : (i wrong k v : ℕ) → eqb wrong 0 ≡ all-below k (λ k. header-right i (beside words size k))
-      → v ≡ one-if (not (header-word-right i (word words (size * k)))) → eqb (wrong + v) 0 ≡ all-below (k + 1) (λ k. header-right i (beside words size k))
+      → v ≡ one-if (not (header-right i (beside words size k))) → eqb (wrong + v) 0 ≡ all-below (k + 1) (λ k. header-right i (beside words size k))
   wrong-step i wrong k v h e =
-      ap (λ (x : ℕ). eqb (wrong + x) 0) (e ∙ ap (λ (x : ℕ). one-if (not (header-word-right i x))) (header k))
+      ap (λ (x : ℕ). eqb (wrong + x) 0) e
       ∙ go (header-right i (beside words size k))
       ∙ ap (λ (t : Bool). t && header-right i (beside words size k)) h
       ∙ sym (all-below-step k (λ k. header-right i (beside words size k)))
@@ -69,63 +103,22 @@ module _ {words : List ℕ} {size : ℕ} (b : Beside words size) where
       go true = ap (λ (x : ℕ). eqb x 0) (add-zero wrong) ∙ sym (and-true (eqb wrong 0))
       go false = ne-eqb (wrong + 1) 0 (λ z. omega arith) ∙ sym (and-false (eqb wrong 0))
 
-  -- ---- putting columns
-
-  pub fields-none : (k : ℕ) (refs : List ℕ) (m : ℕ) → length refs ≡ 4096 → FieldsPut words size k refs m 0 refs
-  fields-none k refs m e = record { long = e; others = λ o _. refl; fields = λ f l. absurd (omega arith) }
-
-  pub fields-step : {k : ℕ} {refs refs' : List ℕ} {m n : ℕ} (v : ℕ) → FieldsPut words size k refs m n refs' → v ≡ column-word words size n k → m + 32 * n + k < 4096
-      → FieldsPut words size k refs m (n + 1) (set refs' (m + 32 * n + k) v)
-  fields-step {k} {refs} {refs'} {m} {n} v h e l = record {
-    long = length-set refs' (m + 32 * n + k) v ∙ h .long;
-    others = λ o apart.
-        getD-set-other refs' (m + 32 * n + k) o v 0 (apart n (omega arith)) ∙ h .others o (λ f u. apart f (omega arith));
-    fields = below-more (λ (f : ℕ). word (set refs' (m + 32 * n + k) v) (m + 32 * f + k) ≡ column-word words size f k) n
-        (λ f u. getD-set-other refs' (m + 32 * n + k) (m + 32 * f + k) v 0 (λ q. omega arith) ∙ h .fields f u)
-        (getD-set-same refs' (m + 32 * n + k) v 0 (omega (arith, h .long)) ∙ e);
-  }
-
   pub columns-none : (i : ℕ) (refs : List ℕ) (m : ℕ) → length refs ≡ 4096 → InColumns i words size refs m 0 refs 0
   unfolding all-below
   columns-none i refs m e = record { long = e; before = λ o _. refl; fields = λ f k l u. absurd (omega arith); headers = refl }
 
-  pub columns-step : {i : ℕ} {refs refs' refs″ : List ℕ} {m n wrong v : ℕ} → InColumns i words size refs m n refs' wrong
-      → FieldsPut words size n refs' m (size - 1) refs″ → n < 32 → v ≡ one-if (not (header-word-right i (word words (size * n))))
+  pub columns-step : {i : ℕ} {block refs refs' refs″ : List ℕ} {m n wrong v : ℕ} → InColumns i words size refs m n refs' wrong → block ≡ beside words size n
+      → FieldsPut block n refs' m (size - 1) refs″ → n < 32 → v ≡ one-if (not (header-right i block))
       → InColumns i words size refs m (n + 1) refs″ (wrong + v)
-  columns-step {i} {refs} {refs'} {refs″} {m} {n} {wrong} {v} h g l e = record {
+  columns-step {i} {block} {refs} {refs'} {refs″} {m} {n} {wrong} {v} h own g l e = record {
     long = g .long;
     before = λ o u. g .others o (λ f q z. omega arith) ∙ h .before o u;
     fields = λ f k u.
-        below-more (λ (k : ℕ). word refs″ (m + 32 * f + k) ≡ column-word words size f k) n
-        (λ k q. g .others (m + 32 * f + k) (λ f′ _ z. omega arith) ∙ h .fields f k u q) (g .fields f (omega arith)) k;
-    headers = wrong-step i wrong n v (h .headers) e;
+        below-more (λ (k : ℕ). word refs″ (m + 32 * f + k) ≡ reference-or-none (beside words size k) f) n
+        (λ k q. g .others (m + 32 * f + k) (λ f′ _ z. omega arith) ∙ h .fields f k u q)
+        (g .fields f (omega arith) ∙ ap (λ (x : List ℕ). reference-or-none x f) own) k;
+    headers = wrong-step i wrong n v (h .headers) (e ∙ ap (λ (x : List ℕ). one-if (not (header-right i x))) own);
   }
-
-  -- the words of a column at one block: its references, and zeros
-  one-block : (k : ℕ) → k < 32 → r-in (beside words size k) < size → (p : ℕ → Bool) → p 0 ≡ true
-      → all-below (size - 1) (λ f. p (column-word words size f k)) ≡ all-words p (references-in (beside words size k))
-  unfolding column-word
-  one-block k l few p none =
-      all-below-split r (size - 1) (λ f. p (column-word words size f k)) (omega arith)
-      ∙ ap₂ _&&_ (all-below-ext r (λ f. p (column-word words size f k)) (λ f. p (word (beside words size k) (1 + f))) (λ f u. ap p (has f u)))
-      (all-below-intro (size - 1 - r) (λ f. p (column-word words size (r + f) k)) (λ f u. ap p (has-not (r + f) (omega arith)) ∙ none))
-      ∙ and-true (all-below r (λ f. p (word (beside words size k) (1 + f))))
-      ∙ sym (all-words-part p (beside words size k) 1 r (omega (arith, length-part words (size * k) size (omega (arith, within k l, b .long)))))
-    where
-      r : ℕ
-      r = r-in (beside words size k)
-
-      count : field 12 12 (word words (size * k)) ≡ r
-      count = ap (field 12 12) (header k)
-
-      has : (f : ℕ) → f < r → column-word words size f k ≡ word (beside words size k) (1 + f)
-      has f u =
-          let there : size * k + 1 + f ≡ size * k + (1 + f) = omega arith in
-          ap (λ (t : Bool). cond t (word words (size * k + 1 + f)) 0) (lt-ltb f (field 12 12 (word words (size * k))) (omega (arith, count)))
-          ∙ ap (word words) there ∙ sym (block-word k (1 + f) (omega arith))
-
-      has-not : (f : ℕ) → r ≤ f → column-word words size f k ≡ 0
-      has-not f u = ap (λ (t : Bool). cond t (word words (size * k + 1 + f)) 0) (le-ltb f (field 12 12 (word words (size * k))) (omega (arith, count)))
 
   pub added-beside : {refs refs' : List ℕ} {m i wrong : ℕ} → block-words i ≡ size → length refs ≡ 4096 → m + 32 * (size - 1) ≤ 4096
       → InColumns i words size refs m 32 refs' wrong → AddedBeside i words size refs m refs' (eqb wrong 0) (m + 32 * (size - 1))
@@ -139,11 +132,15 @@ module _ {words : List ℕ} {size : ℕ} (b : Beside words size) where
         ∙ ap₂ _&&_
         (all-below-ext m (λ o. p (word refs' o)) (λ o. p (word refs o)) (λ o l. ap p (c .before o l)) ∙ sym (all-words-take p m refs (omega (arith, long))))
         (by-rows n (λ o. p (word refs' (m + o)))
-        ∙ all-below-ext n (λ f. all-below 32 (λ k. p (word refs' (m + (32 * f + k))))) (λ f. all-below 32 (λ k. p (column-word words size f k)))
-        (λ f l. all-below-ext 32 (λ k. p (word refs' (m + (32 * f + k)))) (λ k. p (column-word words size f k)) (λ k u. ap p (ap (word refs') (omega arith) ∙ c .fields f k (omega arith) u)))
-        ∙ exchanged n 32 (λ f k. p (column-word words size f k))
-        ∙ all-below-ext 32 (λ k. all-below n (λ f. p (column-word words size f k))) (λ k. all-words p (references-in (beside words size k)))
-        (λ k u. one-block k u (omega (arith, own, header-room i (beside words size k) (all-below-at 32 (λ k. header-right i (beside words size k)) (sym (c .headers) ∙ yes-right) k u))) p none));
+        ∙ all-below-ext n (λ f. all-below 32 (λ k. p (word refs' (m + (32 * f + k))))) (λ f. all-below 32 (λ k. p (reference-or-none (beside words size k) f)))
+        (λ f l. all-below-ext 32 (λ k. p (word refs' (m + (32 * f + k)))) (λ k. p (reference-or-none (beside words size k) f)) (λ k u. ap p (ap (word refs') (omega arith) ∙ c .fields f k (omega arith) u)))
+        ∙ exchanged n 32 (λ f k. p (reference-or-none (beside words size k) f))
+        ∙ all-below-ext 32 (λ k. all-below n (λ f. p (reference-or-none (beside words size k) f))) (λ k. all-words p (references-in (beside words size k)))
+        (λ k u.
+        ap (λ (z : ℕ). all-below (z - 1) (λ f. p (reference-or-none (beside words size k) f))) (sym (beside-long k u))
+        ∙ one-block (beside words size k)
+        (omega (arith, own, beside-long k u, header-room i (beside words size k) (all-below-at 32 (λ k. header-right i (beside words size k)) (sym (c .headers) ∙ yes-right) k u)))
+        p none));
   }
     where
       n : ℕ

@@ -25,7 +25,7 @@ use Rattle.laws.proofs.Splice.{length-part, word-part}
 use Rattle.words.proofs.ClassLaws.{class-rule, bounds-class, class-room}
 use Rattle.words.proofs.HandleLaws.{block-inside, block-in-arena}
 use Rattle.taken.specs.Row.{TakenRow}
-use Rattle.taken.specs.Gather.{all-words, header-word-right, header-right, references-in, headed, references-of, Copied, Added, GatheredBelow, Of, AtWord}
+use Rattle.taken.specs.Gather.{all-words, header-right, references-in, headed, references-of, Copied, Added, GatheredBelow, Of, AtWord}
 use Rattle.taken.proofs.RowLaws.{taken-at-inside, is-taken-at, row-bit-taken}
 
 -- ---- a test of each word of a list
@@ -91,7 +91,7 @@ copied-less {b} {refs} {refs'} {w} {m} r c l u = record {
 
 -- a right header leaves room for itself: r is less than the block's words
 pub header-room : (i : ℕ) (b : List ℕ) → header-right i b ≡ true → r-in b < block-words i
-unfolding header-word-right
+unfolding header-right
 header-room i b t =
     let both = and-eq-true-iff (eqb (class-of (n-in b)) i) (leb (r-in b) (n-in b)) .0 t in
     omega (arith, class-room (n-in b) i (eqb-true (class-of (n-in b)) i (both .0)), leb-true (r-in b) (n-in b) (both .1))

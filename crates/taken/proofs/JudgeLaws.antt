@@ -18,7 +18,7 @@ use Rattle.model.specs.Sound.{block-right, taken-right}
 use Rattle.laws.proofs.Below.{all-below-at, all-below-ext, all-below-fails, all-below-finds}
 use Rattle.words.proofs.ClassLaws.{bounds-class, blocks-most}
 use Rattle.taken.specs.Row.{TakenRow, row-taken, row-none-or-taken}
-use Rattle.taken.specs.Gather.{all-words, references-in, header-word-right, header-right, headed, references-of, right-at, segment-right, GatheredBelow, Of}
+use Rattle.taken.specs.Gather.{all-words, references-in, header-right, headed, references-of, right-at, segment-right, GatheredBelow, Of}
 use Rattle.taken.proofs.RowLaws.{row-none-or-taken-is, row-taken-is, is-taken-at}
 use Rattle.taken.proofs.GatherLaws.{all-words-ext, all-words-part, header-room, headed-free, headed-taken, references-free, references-taken, block-long, block-handed, taken-inside}
 
@@ -26,13 +26,13 @@ use Rattle.taken.proofs.GatherLaws.{all-words-ext, all-words-part, head
 
 -- a block with a right header is right if its references are
 right-header : (ws : List ℕ) (i : ℕ) (b : List ℕ) → header-right i b ≡ true → block-right ws i b ≡ all-below (r-in b) (λ f. none-or-taken ws (reference-in b f))
-unfolding header-word-right block-right
+unfolding header-right block-right
 right-header ws i b t =
     sym (and-assoc (eqb (class-of (n-in b)) i) (leb (r-in b) (n-in b)) (all-below (r-in b) (λ f. none-or-taken ws (reference-in b f))))
     ∙ ap (λ (u : Bool). u && all-below (r-in b) (λ f. none-or-taken ws (reference-in b f))) t
 
 wrong-header : (ws : List ℕ) (i : ℕ) (b : List ℕ) → header-right i b ≡ false → block-right ws i b ≡ false
-unfolding header-word-right block-right
+unfolding header-right block-right
 wrong-header ws i b t =
     sym (and-assoc (eqb (class-of (n-in b)) i) (leb (r-in b) (n-in b)) (all-below (r-in b) (λ f. none-or-taken ws (reference-in b f))))
     ∙ ap (λ (u : Bool). u && all-below (r-in b) (λ f. none-or-taken ws (reference-in b f))) t

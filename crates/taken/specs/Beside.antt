@@ -8,8 +8,9 @@ use mathlib.Core.List.{List}
 use lib.ListN.{length, take}
 use lib.Dec.{eqb, ltb}
 use Rattle.model.specs.Below.{all-below}
-use Rattle.model.specs.Word.{word, field, part}
+use Rattle.model.specs.Word.{word, part}
 use Rattle.model.specs.Class.{block-words}
+use Rattle.model.specs.View.{r-in, reference-in}
 use Rattle.taken.specs.Gather.{all-words, header-right, references-in}
 
 -- blocks of 2 or 4 words
@@ -22,37 +23,32 @@ pub record Beside (words : List ℕ) (size : ℕ) : Type 0 where
 abbrev pub beside : List ℕ → ℕ → ℕ → List ℕ
 beside words size k = part words (size * k) size
 
--- word v of a block with that header if it is its reference f, and 0 if it is not
-abbrev pub reference-or-none : ℕ → ℕ → ℕ → ℕ
-reference-or-none header f v = cond (ltb f (field 12 12 header)) v 0
-
-unfoldable pub column-word : List ℕ → ℕ → ℕ → ℕ → ℕ
-column-word words size f k = reference-or-none (word words (size * k)) f (word words (size * k + 1 + f))
-
-pub record InColumn (words : List ℕ) (size f k : ℕ) : Type 0 where
-  pub beside : Beside words size
-  pub field : f + 1 < size
-  pub block : k < 32
+-- reference f of a block, and 0 if it has none
+unfoldable pub reference-or-none : List ℕ → ℕ → ℕ
+reference-or-none b f = cond (ltb f (r-in b)) (reference-in b f) 0
 
 -- ---- putting the references of one block, and of all
 
-pub record Fields (words : List ℕ) (size k : ℕ) (refs : List ℕ) (m : ℕ) : Type 0 where
-  pub beside : Beside words size
+-- block b at place k
+pub record Fields (b : List ℕ) (size k : ℕ) (refs : List ℕ) (m : ℕ) : Type 0 where
+  pub some : 2 ≤ size
+  pub few : size ≤ 4
+  pub own : length b ≡ size
   pub block : k < 32
   pub long : length refs ≡ 4096
   pub room : m + 32 * (size - 1) ≤ 4096
 
--- the first n references of block k are put, and no other word is changed
-pub record FieldsPut (words : List ℕ) (size k : ℕ) (refs : List ℕ) (m n : ℕ) (refs' : List ℕ) : Type 0 where
+-- its first n references are put, and no other word is changed
+pub record FieldsPut (b : List ℕ) (k : ℕ) (refs : List ℕ) (m n : ℕ) (refs' : List ℕ) : Type 0 where
   pub long : length refs' ≡ 4096
   pub others : (o : ℕ) → ((f : ℕ) → f < n → o ≢ m + 32 * f + k) → word refs' o ≡ word refs o
-  pub fields : (f : ℕ) → f < n → word refs' (m + 32 * f + k) ≡ column-word words size f k
+  pub fields : (f : ℕ) → f < n → word refs' (m + 32 * f + k) ≡ reference-or-none b f
 
 -- those of the first n blocks are, and `wrong` of their headers are not right
 pub record InColumns (i : ℕ) (words : List ℕ) (size : ℕ) (refs : List ℕ) (m n : ℕ) (refs' : List ℕ) (wrong : ℕ) : Type 0 where
   pub long : length refs' ≡ 4096
   pub before : (o : ℕ) → o < m → word refs' o ≡ word refs o
-  pub fields : (f k : ℕ) → f + 1 < size → k < n → word refs' (m + 32 * f + k) ≡ column-word words size f k
+  pub fields : (f k : ℕ) → f + 1 < size → k < n → word refs' (m + 32 * f + k) ≡ reference-or-none (beside words size k) f
   pub headers : eqb wrong 0 ≡ all-below n (λ k. header-right i (beside words size k))
 
 -- asked for 32 blocks of class i, and what they add to the references that are gathered already

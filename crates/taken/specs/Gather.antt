@@ -7,7 +7,7 @@ use mathlib.Core.List.{List, [], _++_}
 use lib.ListN.{length, take}
 use lib.Dec.{eqb, leb}
 use Rattle.model.specs.Below.{all-below}
-use Rattle.model.specs.Word.{word, field, part, bit}
+use Rattle.model.specs.Word.{word, part, bit}
 use Rattle.model.specs.Class.{blocks, block-words, class-of}
 use Rattle.model.specs.Layout.{block-at}
 use Rattle.model.specs.View.{segments, class, block-of, n-in, r-in}
@@ -16,11 +16,8 @@ use Rattle.model.specs.Sound.{block-right}
 use Rattle.taken.specs.Row.{Classed, Member, TakenRow}
 
 -- a header of class i: "n whose class is the segment's, r not above n"
-unfoldable pub header-word-right : ℕ → ℕ → Bool
-header-word-right i w = eqb (class-of (field 0 12 w)) i && leb (field 12 12 w) (field 0 12 w)
-
-abbrev pub header-right : ℕ → List ℕ → Bool
-header-right i b = header-word-right i (word b 0)
+unfoldable pub header-right : ℕ → List ℕ → Bool
+header-right i b = eqb (class-of (n-in b)) i && leb (r-in b) (n-in b)
 
 -- a test of each word of a list
 abbrev pub all-words : (ℕ → Bool) → List ℕ → Bool

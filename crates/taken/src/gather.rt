@@ -7,12 +7,13 @@
 ghost use mathlib.Core.Path.{_≡_};
 ghost use mathlib.Core.Bool.{not};
 ghost use Prim.Native.Nat.{_+_, _-_, _*_, _<_, _≤_};
+ghost use lib.ListN.{length};
 ghost use Rattle.model.specs.Below.{one-if};
 ghost use Rattle.model.specs.Word.{part};
 ghost use Rattle.model.specs.Class.{blocks};
 ghost use Rattle.model.specs.Layout.{block-at};
-ghost use Rattle.taken.specs.Gather.{header-word-right, Copying, Copied, Putting, Adding, Added, GatheredBelow, AtBlock, AtWord, AtFull, From, AtSegment};
-ghost use Rattle.taken.specs.Beside.{reference-or-none, InColumn, column-word, Fields, FieldsPut, InColumns, AddingBeside, AddedBeside};
+ghost use Rattle.taken.specs.Gather.{header-right, Copying, Copied, Putting, Adding, Added, GatheredBelow, AtBlock, AtWord, AtFull, From, AtSegment};
+ghost use Rattle.taken.specs.Beside.{Beside, beside, reference-or-none, Fields, FieldsPut, InColumns, AddingBeside, AddedBeside};
 use arena::block_of;
 use model::BlockIndex;
 use words::class::blocks;
@@ -35,9 +36,11 @@ pub struct Member {
     pub class: u32,
 }
 
-pub fn header_right(w: u32, class: u32) -> bool
-    ensures { λ r. ⌜ r ≡ header-word-right class w ⌝ }
+pub fn header_right(block: &[u32], class: u32) -> bool
+    requires { ⌜ 0 < length (now block) ⌝ }
+    ensures { λ r. ⌜ r ≡ header-right class (now (block .entry)) ⌝ }
 {
+    let w = block[0];
     let n = header_n(w);
     if class_of(n) != class {
         return false;
@@ -78,7 +81,7 @@ fn add_block(block: &[u32], class: u32, refs: &mut [u32; 4096], m: usize) -> Gat
     requires { ⌜ Adding class (now block) (now refs) m ⌝ }
     ensures { λ g. ⌜ Added class (now (block .entry)) (now (refs .entry)) m (now (refs .exit)) (g .right) (g .count) ⌝ }
 {
-    if !header_right(block[0], class) {
+    if !header_right(block, class) {
         return Gathered {
             right: false,
             count: m,
@@ -101,44 +104,40 @@ fn gather_block(arena: &[u32], of: Member, k: u32, refs: &mut [u32; 4096], m: us
 }
 
 // 1 for a wrong header, 0 for a right one.
-fn is_wrong(w: u32, class: u32) -> u32
-    ensures { λ r. ⌜ (r ≡ one-if (not (header-word-right class w))) × (r ≤ 1) ⌝ }
+fn is_wrong(block: &[u32], class: u32) -> u32
+    requires { ⌜ 0 < length (now block) ⌝ }
+    ensures { λ r. ⌜ (r ≡ one-if (not (header-right class (now (block .entry))))) × (r ≤ 1) ⌝ }
 {
-    (!header_right(w, class)) as u32
+    (!header_right(block, class)) as u32
 }
 
-// Where block k of 32 begins.
-fn begin(size: usize, k: usize) -> usize
-    requires { ⌜ (size ≤ 4) × (k < 32) ⌝ }
-    ensures { λ r. ⌜ (r ≡ size * k) × (r + size ≤ 32 * size) ⌝ }
+// Reference f of a block, and 0 if it has none.
+fn reference_or_none(block: &[u32], f: usize) -> u32
+    requires { ⌜ 1 + f < length (now block) ⌝ }
+    ensures { λ r. ⌜ r ≡ reference-or-none (now (block .entry)) f ⌝ }
 {
-    size * k
+    let v = block[1 + f];
+    if f < wide(header_r(block[0])) { v } else { 0 }
 }
 
-// Word v of a block with that header if it is its reference f, and 0 if it is not.
-fn reference_or_none(header: u32, f: usize, v: u32) -> u32
-    ensures { λ r. ⌜ r ≡ reference-or-none header f v ⌝ }
+// Block k of 32 that stand side by side.
+fn block_beside(words: &[u32], size: usize, k: usize) -> &[u32]
+    requires { ⌜ Beside (now words) size × (k < 32) ⌝ }
+    ensures { λ r. ⌜ now r ≡ beside (now (words .entry)) size k ⌝ }
 {
-    if f < wide(header_r(header)) { v } else { 0 }
-}
-
-// The same of block k of 32.
-fn column_word(words: &[u32], size: usize, f: usize, k: usize) -> u32
-    requires { ⌜ InColumn (now words) size f k ⌝ }
-    ensures { λ r. ⌜ r ≡ column-word (now (words .entry)) size f k ⌝ }
-{
-    let header = begin(size, k);
-    reference_or_none(words[header], f, words[header + 1 + f])
+    let from = size * k;
+    let end = from + size;
+    &words[from..end]
 }
 
 // Puts the references of block k of 32, each at place k of its field's 32 words, from word m on.
-fn put_fields(words: &[u32], size: usize, k: usize, refs: &mut [u32; 4096], m: usize)
-    requires { ⌜ Fields (now words) size k (now refs) m ⌝ }
-    ensures { λ _. ⌜ FieldsPut (now (words .entry)) size k (now (refs .entry)) m (size - 1) (now (refs .exit)) ⌝ }
+fn put_fields(block: &[u32], size: usize, k: usize, refs: &mut [u32; 4096], m: usize)
+    requires { ⌜ Fields (now block) size k (now refs) m ⌝ }
+    ensures { λ _. ⌜ FieldsPut (now (block .entry)) k (now (refs .entry)) m (size - 1) (now (refs .exit)) ⌝ }
 {
     let mut f: usize = 0;
     while f + 1 < size {
-        refs[m + 32 * f + k] = column_word(words, size, f, k);
+        refs[m + 32 * f + k] = reference_or_none(block, f);
         f += 1;
     }
 }
@@ -151,8 +150,9 @@ fn put_columns(words: &[u32], size: usize, class: u32, refs: &mut [u32; 4096], m
     let mut wrong: u32 = 0;
     let mut k: usize = 0;
     while k < 32 {
-        put_fields(words, size, k, refs, m);
-        wrong += is_wrong(words[begin(size, k)], class);
+        let block = block_beside(words, size, k);
+        put_fields(block, size, k, refs, m);
+        wrong += is_wrong(block, class);
         k += 1;
     }
     wrong

@@ -43,7 +43,7 @@ fn block_right(arena: &[u32], row: &[u32; 8192], of: Member, k: u32) -> bool
         return true;
     }
     let block = block_of(arena, of.n, of.s, of.class, BlockIndex(k));
-    if !header_right(block[0], of.class) {
+    if !header_right(block, of.class) {
         return false;
     }
     references_right(row, block)

@@ -15,18 +15,15 @@ use Rattle.taken.proofs.gather.add_block.Statement.{statement}
 use Rattle.taken.proofs.gather.add_block.Tie as tie
 
 -- past the test the header is right
-right : (c : tie.Else1) → header-right (c .before .before .before .before .args .class) (c .before .before .before .before .args .block .now) ≡ true
+right : (c : tie.Else1) → header-right (c .before .before .before .args .class) (c .before .before .before .args .block .now) ≡ true
 right c = sym (c .before .header-right .ensures) ∙ not-false _ (c .if1 .left)
-
-shared-slice-read-header-right : tie.Need-shared-slice-read-header-right
-shared-slice-read-header-right c = search needs
 
 header-right-requires : tie.Need-header-right-requires
 header-right-requires c κs = search needs
 
 returns : tie.Need-returns
 returns c = record {
-  long = c .before .before .before .before .pre .long;
+  long = c .before .before .before .pre .long;
   header = sym (not-true _ (c .if1 .taken)) ∙ c .before .header-right .ensures;
   room = λ r. absurd (false≢true r);
   few = λ r. absurd (false≢true r);
@@ -44,8 +41,8 @@ wide-requires c κs = search needs
 
 put-references-requires : tie.Need-put-references-requires
 put-references-requires c κs =
-    let p = c .before .before .before .before .before .before .before .before .pre in
-    let a = c .before .before .before .before .before .before .before .before .args in
+    let p = c .before .before .before .before .before .before .before .pre in
+    let a = c .before .before .before .before .before .before .before .args in
     let room = header-room (a .class) (a .block .now) (right (c .before .before .before .before)) in
     let same = c .before .wide .ensures ∙ c .before .before .header-r .ensures in
     record {
@@ -55,13 +52,13 @@ put-references-requires c κs =
       room = omega (arith, p .room, p .block);
     }
 
-add-t14 : tie.Need-add-t14
-add-t14 c = search needs
+add-t13 : tie.Need-add-t13
+add-t13 c = search needs
 
 returns-2 : tie.Need-returns-2
 returns-2 c =
-    let p = c .before .before .before .before .before .before .before .before .before .pre in
-    let a = c .before .before .before .before .before .before .before .before .before .args in
+    let p = c .before .before .before .before .before .before .before .before .pre in
+    let a = c .before .before .before .before .before .before .before .before .args in
     let header = right (c .before .before .before .before .before) in
     let room = header-room (a .class) (a .block .now) header in
     let same = c .before .before .wide .ensures ∙ c .before .before .before .header-r .ensures in
@@ -77,12 +74,11 @@ pub add-block-spec : {M : Type 1} → statement M
 add-block-spec =
     tie.close
     (tie.spec
-    shared-slice-read-header-right
     header-right-requires
     returns
     shared-slice-read-header-r
     header-r-requires
     wide-requires
     put-references-requires
-    add-t14
+    add-t13
     returns-2)

@@ -1,15 +1,12 @@
 -- `taken::gather::put_columns` meets its contract. The loop's invariant: the references of the first k blocks are put, and their wrong headers counted.
 -- Assumes nothing.
-use Prim.Native.Nat.{ℕ, _+_, _-_, _≤_}
+use Prim.Native.Nat.{ℕ, _+_, _-_, _≤_, _<_}
 use native.Mathlib.Omega.{arith}
 use mathlib.Core.Path.{_≡_, ap, _∙_}
-use mathlib.Core.Bool.{not}
+use lib.ListN.{length}
 use borrow.Author.Needs.{needs}
-use Rattle.model.specs.Below.{one-if}
-use Rattle.model.specs.Word.{word}
-use Rattle.taken.specs.Gather.{header-word-right}
 use Rattle.taken.specs.Beside.{InColumns}
-use Rattle.taken.proofs.BesideLaws.{columns-none, columns-step}
+use Rattle.taken.proofs.BesideLaws.{beside-long, columns-none, columns-step}
 use Rattle.taken.proofs.gather.put_columns.Statement.{statement}
 use Rattle.taken.proofs.gather.put_columns.Tie as tie
 
@@ -22,20 +19,26 @@ abbrev μ-loop : tie.MeasureT-loop
 loop-holds : tie.Need-loop-holds Inv-loop μ-loop
 loop-holds c = (omega arith, omega arith, columns-none (c .before .pre .beside) _ _ _ (c .before .pre .long))
 
+block-beside-requires : tie.Need-block-beside-requires Inv-loop μ-loop
+block-beside-requires c κs = search needs
+
 put-fields-requires : tie.Need-put-fields-requires Inv-loop μ-loop
-put-fields-requires c κs = search needs
-
-begin-requires : tie.Need-begin-requires Inv-loop μ-loop
-begin-requires c κs = search needs
-
-mul-is-wrong : tie.Need-mul-is-wrong Inv-loop μ-loop
-mul-is-wrong c = search needs
-
-shared-slice-read-is-wrong : tie.Need-shared-slice-read-is-wrong Inv-loop μ-loop
-shared-slice-read-is-wrong c = search needs
+put-fields-requires c κs =
+    let p = c .before .before .before .before .before .pre in
+    let loop = c .before .before .before .loop in
+    record {
+      some = p .beside .some;
+      few = p .beside .few;
+      own = ap length (c .before .block-beside .ensures) ∙ beside-long (p .beside) (loop .k) (c .before .before .loop-test .taken);
+      block = c .before .before .loop-test .taken;
+      long = loop .inv .2 .long;
+      room = p .room;
+    }
 
 is-wrong-requires : tie.Need-is-wrong-requires Inv-loop μ-loop
-is-wrong-requires c κs = search needs
+is-wrong-requires c κs =
+    let p = c .before .before .before .before .before .before .pre in
+    omega (arith, ap length (c .before .before .block-beside .ensures), beside-long (p .beside) (c .before .before .before .before .loop .k) (c .before .before .before .loop-test .taken), p .beside .some)
 
 add-wrong : tie.Need-add-wrong Inv-loop μ-loop
 add-wrong c = search needs
@@ -48,11 +51,12 @@ loop-less c = search needs
 
 loop-again : tie.Need-loop-again Inv-loop μ-loop
 loop-again c =
-    let a = c .before .before .before .before .before .before .before .before .args in
-    let p = c .before .before .before .before .before .before .before .before .pre in
-    let loop = c .before .before .before .before .before .before .loop in
-    let told = c .is-wrong .ensures .0 ∙ ap (λ (o : ℕ). one-if (not (header-word-right (a .class) (word (a .words .now) o)))) (c .before .before .begin .ensures .0) in
-    (omega arith, omega (arith, loop .inv .1, c .is-wrong .ensures .1), columns-step (p .beside) (loop .inv .2) (c .before .before .before .put-fields .ensures) (search needs) told)
+    let p = c .before .before .before .before .before .before .before .pre in
+    let loop = c .before .before .before .before .before .loop in (
+      omega arith,
+      omega (arith, loop .inv .1, c .is-wrong .ensures .1),
+      columns-step (p .beside) (loop .inv .2) (c .before .before .before .block-beside .ensures) (c .before .put-fields .ensures) (c .before .before .before .before .loop-test .taken) (c .is-wrong .ensures .0),
+    )
 
 returns : tie.Need-returns Inv-loop μ-loop
 returns c =
@@ -66,10 +70,8 @@ put-columns-spec =
     Inv-loop
     μ-loop
     loop-holds
+    block-beside-requires
     put-fields-requires
-    begin-requires
-    mul-is-wrong
-    shared-slice-read-is-wrong
     is-wrong-requires
     add-wrong
     add-k

@@ -10,19 +10,19 @@ use Rattle.taken.proofs.gather.put_fields.Statement.{statement}
 use Rattle.taken.proofs.gather.put_fields.Tie as tie
 
 abbrev Inv-loop : tie.InvT-loop
-Inv-loop words size k refs₀ m f₀ refs f = (f + 1 ≤ size) × FieldsPut words size k refs₀ m f refs
+Inv-loop block size k refs₀ m f₀ refs f = (f + 1 ≤ size) × FieldsPut block k refs₀ m f refs
 
 abbrev μ-loop : tie.MeasureT-loop
-μ-loop words size k refs₀ m f₀ refs f = size - f
+μ-loop block size k refs₀ m f₀ refs f = size - f
 
 loop-holds : tie.Need-loop-holds Inv-loop μ-loop
-loop-holds c = (omega (arith, c .before .pre .beside .some), fields-none (c .before .pre .beside) _ _ _ (c .before .pre .long))
+loop-holds c = (omega (arith, c .before .pre .some), fields-none _ _ _ _ (c .before .pre .long))
 
 add-loop : tie.Need-add-loop Inv-loop μ-loop
-add-loop c = omega (arith, c .loop .inv .0, c .before .before .pre .beside .few)
+add-loop c = omega (arith, c .loop .inv .0, c .before .before .pre .few)
 
-column-word-requires : tie.Need-column-word-requires Inv-loop μ-loop
-column-word-requires c κs = search needs
+reference-or-none-requires : tie.Need-reference-or-none-requires Inv-loop μ-loop
+reference-or-none-requires c κs = search needs
 
 mul-refs : tie.Need-mul-refs Inv-loop μ-loop
 mul-refs c = search needs
@@ -48,8 +48,7 @@ loop-less c = search needs
 loop-again : tie.Need-loop-again Inv-loop μ-loop
 loop-again c =
     let loop = c .before .before .loop in
-    let p = c .before .before .before .before .pre in
-    (search needs, fields-step (p .beside) _ (loop .inv .1) (c .column-word .ensures) (search needs))
+    (search needs, fields-step _ (loop .inv .1) (c .reference-or-none .ensures) (search needs))
 
 returns : tie.Need-returns Inv-loop μ-loop
 returns c =
@@ -65,7 +64,7 @@ put-fields-spec =
     μ-loop
     loop-holds
     add-loop
-    column-word-requires
+    reference-or-none-requires
     mul-refs
     add-refs
     add-refs-2

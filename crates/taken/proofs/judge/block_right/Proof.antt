@@ -51,30 +51,26 @@ returns c =
 block-of-requires : tie.Need-block-of-requires
 block-of-requires c κs = search needs
 
-shared-slice-read-header-right : tie.Need-shared-slice-read-header-right
-shared-slice-read-header-right c =
-    let m = c .before .before .before .before .before .before .pre .of .member in
-    let i = c .before .before .before .before .before .before .args .of .class in
-    omega (arith, long (c .before), block-least i (bounds-class i (m .low) (m .high)))
-
 header-right-requires : tie.Need-header-right-requires
-header-right-requires c κs = search needs
+header-right-requires c κs =
+    let m = c .before .before .before .before .before .pre .of .member in
+    omega (arith, long c, block-least (c .before .before .before .before .before .args .of .class) (bounds-class (c .before .before .before .before .before .args .of .class) (m .low) (m .high)))
 
 returns-2 : tie.Need-returns-2
 returns-2 c =
-    let p = c .before .before .before .before .before .before .before .before .pre in
-    header-wrong (p .of) _ (c .before .before .before .block-of .ensures) (c .before .header-right .ensures) (not-true _ (c .if2 .taken)) (taken (c .before .before .before .before))
+    let p = c .before .before .before .before .before .before .before .pre in
+    header-wrong (p .of) _ (c .before .before .block-of .ensures) (c .before .header-right .ensures) (not-true _ (c .if2 .taken)) (taken (c .before .before .before))
 
 references-right-requires : tie.Need-references-right-requires
 references-right-requires c κs =
-    let a = c .before .before .before .before .before .before .before .before .args in
-    omega (arith, long (c .before .before .before), header-room (a .of .class) (c .before .before .before .block-of .result .now) (sym (c .before .header-right .ensures) ∙ not-false _ (c .if2 .left)))
+    let a = c .before .before .before .before .before .before .before .args in
+    omega (arith, long (c .before .before), header-room (a .of .class) (c .before .before .block-of .result .now) (sym (c .before .header-right .ensures) ∙ not-false _ (c .if2 .left)))
 
 returns-3 : tie.Need-returns-3
 returns-3 c =
-    let p = c .before .before .before .before .before .before .before .before .before .pre in
-    references-right (p .of) _ (c .before .before .before .before .block-of .ensures) (c .before .before .header-right .ensures) (not-false _ (c .before .if2 .left))
-    (taken (c .before .before .before .before .before)) (p .taken) (c .references-right .ensures)
+    let p = c .before .before .before .before .before .before .before .before .pre in
+    references-right (p .of) _ (c .before .before .before .block-of .ensures) (c .before .before .header-right .ensures) (not-false _ (c .before .if2 .left))
+    (taken (c .before .before .before .before)) (p .taken) (c .references-right .ensures)
 
 pub block-right-spec : {M : Type 1} → statement M
 block-right-spec =
@@ -86,7 +82,6 @@ block-right-spec =
     is-taken-requires
     returns
     block-of-requires
-    shared-slice-read-header-right
     header-right-requires
     returns-2
     references-right-requires
