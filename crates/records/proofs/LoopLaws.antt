@@ -1,13 +1,18 @@
--- Judging by tests in turn: a row of tests, a loop that tests the numbers below a bound and leaves at the first that fails, and a loop that
--- counts those that pass.
+-- Judging by tests in turn: a row of tests, a loop that tests the numbers below a bound and leaves at the first that fails, a loop that counts
+-- those that pass, and a loop that joins words of which none is to have a bit.
 -- Assumes nothing.
 use Prim.Native.Nat.{ℕ, _+_, _≤_, _<_}
 use mathlib.Core.Path.{_≡_, refl, sym, ap, _∙_}
 use mathlib.Core.Bool.{Bool, true, false, not, _&&_, and-eq-true-iff}
+use mathlib.Core.List.{List}
 use native.Mathlib.Nat.{le-antisymm}
 use native.Mathlib.Omega.{arith}
-use borrow.Author.Tests.{not-true, not-false}
+use lib.Bits.{bitOr, or-add-and, and-le-l, and-le-r}
+use lib.Dec.{eqb}
+use lib.ListN.{length}
+use borrow.Author.Tests.{not-true, not-false, eqb-true, eqb-false, eq-eqb, ne-eqb}
 use Rattle.model.specs.Below.{one-if, all-below, count-below}
+use Rattle.model.specs.Word.{word}
 use Rattle.laws.proofs.Below.{all-below-step, all-below-fails, count-below-step, count-below-le}
 
 -- ---- a test and its answer
@@ -70,3 +75,32 @@ one-counted {n} {p} {k} {m} {d} h l e f =
 
 pub all-counted : {n : ℕ} {p : ℕ → Bool} {k m : ℕ} → Counted n p k m → n ≤ k → m ≡ count-below n p
 all-counted {n} {p} {k} h l = h .so-far ∙ ap (λ (x : ℕ). count-below x p) (le-antisymm (h .within) l)
+
+-- ---- a loop that joins words by or, and asks once whether all are 0
+
+or-zero : (a b : ℕ) → eqb (bitOr a b) 0 ≡ (eqb a 0 && eqb b 0)
+or-zero a b = both (eqb a 0) refl (eqb b 0) refl
+  where
+    both : (s : Bool) → eqb a 0 ≡ s → (t : Bool) → eqb b 0 ≡ t → eqb (bitOr a b) 0 ≡ (s && t)
+    both true e true f = eq-eqb (bitOr a b) 0 (omega (arith, eqb-true a 0 e, eqb-true b 0 f, or-add-and a b))
+    both true e false f = ne-eqb _ _ (λ (z : bitOr a b ≡ 0). eqb-false b 0 f (omega (arith, or-add-and a b, and-le-l a b)))
+    both false e t f = ne-eqb _ _ (λ (z : bitOr a b ≡ 0). eqb-false a 0 e (omega (arith, or-add-and a b, and-le-r a b)))
+
+-- of the words those before j are joined
+pub record Joined (ws : List ℕ) (j w : ℕ) : Type 0 where
+  pub within : j ≤ length ws
+  pub so-far : eqb w 0 ≡ all-below j (λ k. eqb (word ws k) 0)
+
+pub none-joined : (ws : List ℕ) → Joined ws 0 0
+unfolding all-below
+none-joined ws = record { within = omega arith; so-far = refl }
+
+pub one-joined : {ws : List ℕ} {j w : ℕ} → Joined ws j w → j < length ws → Joined ws (j + 1) (bitOr w (word ws j))
+one-joined {ws} {j} {w} h l =
+    record {
+      within = omega arith;
+      so-far = or-zero w (word ws j) ∙ ap (λ (t : Bool). t && eqb (word ws j) 0) (h .so-far) ∙ sym (all-below-step j (λ k. eqb (word ws k) 0));
+    }
+
+pub all-joined : {ws : List ℕ} {j w : ℕ} → Joined ws j w → length ws ≤ j → eqb w 0 ≡ all-below (length ws) (λ k. eqb (word ws k) 0)
+all-joined {ws} {j} h l = h .so-far ∙ ap (λ (n : ℕ). all-below n (λ k. eqb (word ws k) 0)) (le-antisymm (h .within) l)

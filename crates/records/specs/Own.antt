@@ -2,13 +2,12 @@
 -- Assumes nothing.
 use Prim.Native.Nat.{ℕ, zero, suc, _+_, _-_, _*_, _≤_, _<_}
 use mathlib.Core.Path.{_≡_}
-use mathlib.Core.Bool.{Bool, true}
+use mathlib.Core.Bool.{Bool}
 use mathlib.Core.List.{List}
 use lib.ListN.{length}
 use lib.Dec.{eqb}
 use Rattle.model.specs.Below.{all-below}
 use Rattle.model.specs.Word.{word, full}
-use Rattle.model.specs.Class.{is-class, level-words, level-end}
 use Rattle.model.specs.Layout.{level-at, level-room, padded-word}
 use Rattle.model.specs.View.{bit-in}
 
@@ -17,30 +16,41 @@ abbrev pub own-set : List ℕ → ℕ → ℕ → Bool
 own-set rec zero k = bit-in rec k
 own-set rec (suc l) k = full (word rec (level-at l + k))
 
--- the word that these bits and the padding make, and whether word j is that word
-abbrev pub own-word : ℕ → List ℕ → ℕ → ℕ → ℕ
-own-word i rec l j = padded-word (level-words i l) (level-end i l) (own-set rec l) j
+-- of a level of so many words and so many bits: the word that these bits and the padding make, and whether word j is that word
+abbrev pub own-word : ℕ → ℕ → List ℕ → ℕ → ℕ → ℕ
+own-word words end rec l j = padded-word words end (own-set rec l) j
 
-abbrev pub word-right : ℕ → List ℕ → ℕ → ℕ → Bool
-word-right i rec l j = eqb (word rec (level-at l + j)) (own-word i rec l j)
+abbrev pub word-right : ℕ → ℕ → List ℕ → ℕ → ℕ → Bool
+word-right words end rec l j = eqb (word rec (level-at l + j)) (own-word words end rec l j)
 
-unfoldable pub level-right : ℕ → List ℕ → ℕ → Bool
-level-right i rec l = all-below (level-room l) (word-right i rec l)
+unfoldable pub level-right : ℕ → ℕ → List ℕ → ℕ → Bool
+level-right words end rec l = all-below (level-room l) (word-right words end rec l)
 
 -- ---- what is asked
 
--- a level with room for so many words
-pub record LevelOf (rec : List ℕ) (i l room : ℕ) : Type 0 where
+-- level 0: each of its words begins before its end
+pub record LowestOf (rec : List ℕ) (words end : ℕ) : Type 0 where
   pub long : length rec ≡ 68
-  pub class : is-class i ≡ true
+  pub some : 1 ≤ words
+  pub room : words ≤ 64
+  pub begin : 32 * words < end + 32
+
+-- a level above it, with room for so many words: it has no bits but for the words for which the level below has room
+pub record LevelOf (rec : List ℕ) (l words end room : ℕ) : Type 0 where
+  pub long : length rec ≡ 68
+  pub above : 1 ≤ l
   pub level : l < 3
+  pub begin : 32 * words < end + 32
+  pub below : end ≤ level-room (l - 1)
   pub all : room ≡ level-room l
 
--- word j of a level
-pub record WordOf (rec : List ℕ) (i l j : ℕ) : Type 0 where
+-- word j of such a level
+pub record WordOf (rec : List ℕ) (l words end j : ℕ) : Type 0 where
   pub long : length rec ≡ 68
-  pub class : is-class i ≡ true
+  pub above : 1 ≤ l
   pub level : l < 3
+  pub begin : 32 * words < end + 32
+  pub below : end ≤ level-room (l - 1)
   pub inside : j < level-room l
 
 -- n of the words below level l, from word 32 j on

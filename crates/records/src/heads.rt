@@ -1,13 +1,10 @@
 // Word 0, the places and the heads of the records: an arena's size, the bits that are not named, and the classes.
 ghost use mathlib.Core.Path.{_≡_};
-ghost use lib.Dec.{eqb};
-ghost use lib.ListN.{length};
-ghost use Rattle.model.specs.Below.{all-below};
-ghost use Rattle.model.specs.Word.{word};
 ghost use Rattle.model.specs.Class.{is-class, every-class};
 ghost use Rattle.model.specs.Sound.{sized, unnamed-zero, classes, every-segment};
 ghost use Rattle.arena.specs.Inside.{Segment};
 ghost use Rattle.records.specs.Judged.{Sized, SizedClass, place-named, head-named, segment-classed};
+use crate::zero::zero;
 use arena::class;
 use arena::head_of;
 use arena::place_of;
@@ -82,18 +79,6 @@ pub fn unnamed_zero(arena: &[u32]) -> bool
         return false;
     }
     heads_named(arena)
-}
-
-// All of some words are 0.
-fn zero(ws: &[u32]) -> bool
-    ensures { λ r. ⌜ r ≡ all-below (length (now (ws .entry))) (λ j. eqb (word (now (ws .entry)) j) 0) ⌝ }
-{
-    for j in 0..ws.len() {
-        if ws[j] != 0 {
-            return false;
-        }
-    }
-    true
 }
 
 fn is_class(class: u32) -> bool

@@ -24,6 +24,7 @@ pub mod levels;
 pub mod members;
 pub mod places;
 pub mod ranks;
+pub mod zero;
 
 pub fn records_right(arena: &[u32]) -> bool
     ensures { λ r. ⌜ r ≡ records-sound (now (arena .entry)) ⌝ }

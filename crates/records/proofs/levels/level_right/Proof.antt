@@ -10,10 +10,10 @@ use Rattle.records.proofs.levels.level_right.Statement.{statement}
 use Rattle.records.proofs.levels.level_right.Tie as tie
 
 abbrev Inv-loop : tie.InvT-loop
-Inv-loop rec class level room j₀ j = Passed (level-room level) (word-right class rec level) j
+Inv-loop rec level words end room j₀ j = Passed (level-room level) (word-right words end rec level) j
 
 abbrev μ-loop : tie.MeasureT-loop
-μ-loop rec class level room j₀ j = room - j
+μ-loop rec level words end room j₀ j = room - j
 
 loop-holds : tie.Need-loop-holds Inv-loop μ-loop
 loop-holds c = none-yet _ _
