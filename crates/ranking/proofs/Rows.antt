@@ -1,4 +1,4 @@
--- A row that is filled from the front, one store a turn, and one that is filled so behind its first word.
+-- A row that is filled from the front, one store a turn.
 -- Assumes nothing.
 use Prim.Native.Nat.{ℕ, _+_, _<_}
 use mathlib.Core.Path.{_≡_, _∙_}
@@ -14,9 +14,3 @@ pub row-next : (row : List ℕ) (f : ℕ → ℕ) (s at v : ℕ) → at ≡ s �
 row-next row f s at v here l e before =
     rw here
     (below-more (λ t. word (set row s v) t ≡ f t) s (λ t u. getD-set-other row s t v 0 (omega arith) ∙ before t u) (getD-set-same row s v 0 l ∙ e))
-
-pub row-behind : (row : List ℕ) (f : ℕ → ℕ) (s v : ℕ) → s + 1 < length row → v ≡ f s → ((t : ℕ) → t < s → word row (t + 1) ≡ f t)
-    → (t : ℕ) → t < s + 1 → word (set row (s + 1) v) (t + 1) ≡ f t
-row-behind row f s v l e before =
-    below-more (λ t. word (set row (s + 1) v) (t + 1) ≡ f t) s (λ t u. getD-set-other row (s + 1) (t + 1) v 0 (omega arith) ∙ before t u)
-    (getD-set-same row (s + 1) v 0 l ∙ e)
