@@ -25,7 +25,7 @@ use Rattle.laws.proofs.Below.{all-below-step, count-below-ext, count-below-add}
 use Rattle.laws.proofs.Splice.{length-part}
 use Rattle.laws.proofs.Bits.{bit-zero, bit-low, bit-ones, bit-past, bit-pow, bit-shift, bit-and, bit-or, bit-word-of-bits, word-of-bits-lt, word-of-bits-ext, word-ext}
 use Rattle.arena.specs.Rows.{row-bit}
-use Rattle.taken.specs.Row.{asked-bit, TakenRow, row-taken, row-none-or-taken, Limit, row-word, Filled, Blank, Fill, taken-word, Segment, AskedBelow}
+use Rattle.taken.specs.Row.{asked-bit, TakenRow, row-taken, row-none-or-taken, Limit, row-word, Filled, ZeroRow, Blank, Fill, taken-word, Segment, AskedBelow}
 
 -- ---- the word of the ones below a limit
 
@@ -182,6 +182,9 @@ zeros n o = go (decLt o n)
     go : Dec (o < n) → word (replicate n 0) o ≡ 0
     go (yes l) = getD-replicate n o 0 0 l
     go (no l) = List·getD-eq-default (replicate n 0) 0 (omega (arith, length-replicate {A = ℕ} n 0))
+
+pub zero-row : ZeroRow (replicate 8192 0)
+zero-row = record { long = length-replicate {A = ℕ} 8192 0; zero = zeros 8192 }
 
 pub blank-filled : {ws row : List ℕ} → Blank row → Filled ws row 0
 blank-filled b = record { long = b .long; first = b .first; right = λ o l. absurd (omega arith); behind = λ o _. b .behind o }

@@ -81,6 +81,11 @@ pub record Filled (ws row : List ℕ) (end : ℕ) : Type 0 where
   pub right : (o : ℕ) → o < end → word row (1 + o) ≡ row-word ws o
   pub behind : (o : ℕ) → end ≤ o → word row (1 + o) ≡ 0
 
+-- a row as it is lent
+pub record ZeroRow (row : List ℕ) : Type 0 where
+  pub long : length row ≡ 8192
+  pub zero : (o : ℕ) → word row o ≡ 0
+
 -- a row in which no block is taken
 pub record Blank (row : List ℕ) : Type 0 where
   pub long : length row ≡ 8192

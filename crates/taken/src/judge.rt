@@ -98,18 +98,10 @@ fn segment_right(arena: &[u32], row: &[u32; 8192], n: u32, s: u32, refs: &mut [u
     small_right(arena, row, Member { n, s, class }, refs)
 }
 
-fn clear(refs: &mut [u32; 4096])
-    ensures { λ _. ⌜ length (now (refs .exit)) ≡ 4096 ⌝ }
-{
-    *refs = [0; 4096];
-}
-
 fn segments_right(arena: &[u32], row: &[u32; 8192], refs: &mut [u32; 4096]) -> bool
-    requires { ⌜ Classed (now arena) ⌝ }
-    requires { ⌜ TakenRow (now arena) (now row) ⌝ }
+    requires { ⌜ Classed (now arena) × TakenRow (now arena) (now row) × (length (now refs) ≡ 4096) ⌝ }
     ensures { λ r. ⌜ r ≡ taken-right (now (arena .entry)) ⌝ }
 {
-    clear(refs);
     let n = segments(arena);
     let mut s: u32 = 0;
     while s < n {

@@ -8,7 +8,7 @@ ghost use Prim.Native.Nat.{_+_, _*_, _<_};
 ghost use lib.Dec.{ltb};
 ghost use Rattle.model.specs.Word.{word-of-bits};
 ghost use Rattle.model.specs.Class.{words-for};
-ghost use Rattle.taken.specs.Row.{TakenRow, Classed, Member, Limit, Filled, Blank, Fill, taken-word, Words, Segment};
+ghost use Rattle.taken.specs.Row.{TakenRow, Classed, Member, Limit, Filled, ZeroRow, Blank, Fill, taken-word, Words, Segment};
 use arena::class;
 use arena::place_of;
 use arena::rank;
@@ -90,14 +90,16 @@ fn fill_segment(arena: &[u32], s: u32, row: &mut [u32; 8192])
 
 // A row in which no block is taken, but handle 0 has its bit.
 fn blank(row: &mut [u32; 8192])
+    requires { ⌜ ZeroRow (now row) ⌝ }
     ensures { λ _. ⌜ Blank (now (row .exit)) ⌝ }
 {
-    *row = [0; 8192];
     row[0] = 0x8000_0000;
 }
 
+// The row is lent with all its words 0.
 pub fn fill_row(arena: &[u32], row: &mut [u32; 8192])
     requires { ⌜ Classed (now arena) ⌝ }
+    requires { ⌜ ZeroRow (now row) ⌝ }
     ensures { λ _. ⌜ TakenRow (now (arena .entry)) (now (row .exit)) ⌝ }
 {
     blank(row);

@@ -18,7 +18,7 @@ returns c = record {
 
 fill-row-requires : tie.Need-fill-row-requires
 fill-row-requires c κs =
-    classed _ (sym (c .before .before .records-right .ensures) ∙ not-false _ (c .before .if1 .left))
+    (classed _ (sym (c .before .before .records-right .ensures) ∙ not-false _ (c .before .if1 .left)), c .before .before .before .before .pre)
 
 taken-right-requires : tie.Need-taken-right-requires
 taken-right-requires c κs =

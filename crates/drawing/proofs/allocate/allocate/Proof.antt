@@ -1,5 +1,6 @@
 -- `drawing::allocate::allocate` meets its promise. Assumes nothing.
 use borrow.Author.Needs.{needs}
+use Rattle.taken.proofs.RowLaws.{zero-row}
 use borrow.Author.Tests.{not-true, not-false}
 use Prim.Native.Nat.{ℕ}
 use mathlib.Core.Path.{_≡_, refl, sym, _∙_}
@@ -15,7 +16,7 @@ is-sound : (c : tie.Else1) → sound (c .before .before .before .before .before 
 is-sound c = sym (c .before .judge .ensures .answered) ∙ not-false _ (c .if1 .left)
 
 judge-requires : tie.Need-judge-requires
-judge-requires c κs = search needs
+judge-requires c κs = zero-row
 
 same-length : tie.Need-same-length
 same-length c = search needs

@@ -3,6 +3,7 @@ use native.Mathlib.Omega.{arith}
 use mathlib.Core.List.{[], _∷_}
 use mathlib.Core.Path.{refl, _∙_}
 use borrow.Author.Needs.{needs}
+use Rattle.taken.proofs.RowLaws.{zero-row}
 use Rattle.model.specs.Calls.{room}
 use Rattle.drawing.proofs.LookLaws.{not-sound, is-ruled}
 use Rattle.drawing.proofs.Outcomes.{refused, granted}
@@ -11,7 +12,7 @@ use Rattle.drawing.proofs.ask.room.Statement.{statement}
 use Rattle.drawing.proofs.ask.room.Tie as tie
 
 judge-requires : tie.Need-judge-requires
-judge-requires c κs = search needs
+judge-requires c κs = zero-row
 
 returns : tie.Need-returns
 returns c =

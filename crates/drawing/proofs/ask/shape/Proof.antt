@@ -1,6 +1,7 @@
 -- `drawing::ask::shape` keeps its promise. Assumes nothing.
 use mathlib.Core.Path.{refl, ap, _∙_}
 use borrow.Author.Needs.{needs}
+use Rattle.taken.proofs.RowLaws.{zero-row}
 use Rattle.model.specs.Standing.{shape-in, shape-of}
 use Rattle.model.specs.Numbers.{shape-values}
 use Rattle.drawing.proofs.LookLaws.{not-sound, is-ruled, not-taken, is-there}
@@ -10,7 +11,7 @@ use Rattle.drawing.proofs.ask.shape.Statement.{statement}
 use Rattle.drawing.proofs.ask.shape.Tie as tie
 
 judge-requires : tie.Need-judge-requires
-judge-requires c κs = search needs
+judge-requires c κs = zero-row
 
 returns : tie.Need-returns
 returns c =

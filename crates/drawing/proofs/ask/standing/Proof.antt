@@ -1,6 +1,7 @@
 -- `drawing::ask::standing` keeps its promise. Assumes nothing.
 use mathlib.Core.Path.{refl}
 use borrow.Author.Needs.{needs}
+use Rattle.taken.proofs.RowLaws.{zero-row}
 use Rattle.model.specs.Standing.{standing-of}
 use Rattle.model.specs.Numbers.{standing-values}
 use Rattle.drawing.proofs.LookLaws.{not-sound, is-ruled}
@@ -10,7 +11,7 @@ use Rattle.drawing.proofs.ask.standing.Statement.{statement}
 use Rattle.drawing.proofs.ask.standing.Tie as tie
 
 judge-requires : tie.Need-judge-requires
-judge-requires c κs = search needs
+judge-requires c κs = zero-row
 
 returns : tie.Need-returns
 returns c =

@@ -13,7 +13,7 @@ use Rattle.model.specs.Standing.{none-or-taken, taken-count}
 use Rattle.model.specs.Sound.{sound}
 use Rattle.soundness.proofs.Facts.{Sized, sound-facts}
 use Rattle.taken.specs.Row.{TakenRow}
-use Rattle.taken.proofs.RowLaws.{row-count}
+use Rattle.taken.proofs.RowLaws.{row-count, zero-row}
 use Rattle.drawing.proofs.Collecting.{roots-by-row}
 use Rattle.drawing.proofs.RefusalNumbers.{roots-right, collect-unsound, collect-bad-root, collect-short-list, collect-granted}
 use Rattle.drawing.proofs.collect.refusal.Statement.{statement}
@@ -45,7 +45,7 @@ all-counted : (c : tie.After-wide) → c .wide .result ≡ taken-count (arena (c
 all-counted c = c .wide .ensures ∙ c .before .taken-count .ensures ∙ row-count (row-right (c .before .before .before .before .before .before .before)) (sym (c .before .before .segments .ensures))
 
 judge-requires : tie.Need-judge-requires
-judge-requires c κs = search needs
+judge-requires c κs = zero-row
 
 refused-requires : tie.Need-refused-requires
 refused-requires c κs = search needs

@@ -1,6 +1,7 @@
 -- `drawing::place::plain_place` gives the place of a block's plain words. Assumes nothing.
 use mathlib.Core.Path.{refl}
 use borrow.Author.Needs.{needs}
+use Rattle.taken.proofs.RowLaws.{zero-row}
 use Rattle.drawing.proofs.LookLaws.{not-sound, is-ruled, not-taken, is-there}
 use Rattle.drawing.proofs.Refusals.{block-unsound, block-untaken}
 use Rattle.drawing.proofs.PlaceLaws.{no-place, placed}
@@ -8,7 +9,7 @@ use Rattle.drawing.proofs.place.plain_place.Statement.{statement}
 use Rattle.drawing.proofs.place.plain_place.Tie as tie
 
 judge-requires : tie.Need-judge-requires
-judge-requires c κs = search needs
+judge-requires c κs = zero-row
 
 returns : tie.Need-returns
 returns c =

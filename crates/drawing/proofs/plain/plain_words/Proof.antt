@@ -1,6 +1,7 @@
 -- `drawing::plain::plain_words` keeps its promise. Assumes nothing.
 use mathlib.Core.Path.{refl, ap, _∙_}
 use borrow.Author.Needs.{needs}
+use Rattle.taken.proofs.RowLaws.{zero-row}
 use Rattle.model.specs.View.{plain-words-in}
 use Rattle.drawing.proofs.LookLaws.{not-sound, is-ruled, not-taken, is-there}
 use Rattle.drawing.proofs.Refusals.{block-unsound, block-untaken, block-taken, no-plain-words, plain-words}
@@ -8,7 +9,7 @@ use Rattle.drawing.proofs.plain.plain_words.Statement.{statement}
 use Rattle.drawing.proofs.plain.plain_words.Tie as tie
 
 judge-requires : tie.Need-judge-requires
-judge-requires c κs = search needs
+judge-requires c κs = zero-row
 
 sub-result : tie.Need-sub-result
 sub-result c = search needs

@@ -4,6 +4,7 @@ use mathlib.Core.List.{List, [], _∷_}
 use mathlib.Core.Path.{refl, ap, _∙_}
 use lib.Dec.{ltb}
 use borrow.Author.Needs.{needs}
+use Rattle.taken.proofs.RowLaws.{zero-row}
 use Rattle.model.specs.View.{block, n-in, r-in, plain-in}
 use Rattle.drawing.specs.Fields.{field-read}
 use Rattle.drawing.proofs.LookLaws.{not-sound, is-ruled, not-taken, is-there}
@@ -13,7 +14,7 @@ use Rattle.drawing.proofs.plain.read_plain.Statement.{statement}
 use Rattle.drawing.proofs.plain.read_plain.Tie as tie
 
 judge-requires : tie.Need-judge-requires
-judge-requires c κs = search needs
+judge-requires c κs = zero-row
 
 returns : tie.Need-returns
 returns c =

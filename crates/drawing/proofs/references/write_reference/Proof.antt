@@ -5,6 +5,7 @@ use mathlib.Core.List.{[], _∷_}
 use mathlib.Core.Path.{refl, sym, _∙_}
 use lib.Dec.{ltb}
 use borrow.Author.Needs.{needs}
+use Rattle.taken.proofs.RowLaws.{zero-row}
 use borrow.Author.Tests.{ltb-true, not-true, not-false}
 use Rattle.model.specs.Word.{put}
 use Rattle.model.specs.View.{offset, block, r-in}
@@ -17,7 +18,7 @@ use Rattle.drawing.proofs.references.write_reference.Statement.{stateme
 use Rattle.drawing.proofs.references.write_reference.Tie as tie
 
 judge-requires : tie.Need-judge-requires
-judge-requires c κs = search needs
+judge-requires c κs = zero-row
 
 same-length : tie.Need-same-length
 same-length c = search needs

@@ -21,9 +21,6 @@ Inv-loop arena row refs₀ n s₀ refs s = (n ≡ segments arena) × (s ≤ n) �
 abbrev μ-loop : tie.MeasureT-loop
 μ-loop arena row refs₀ n s₀ refs s = n - s
 
-clear-requires : tie.Need-clear-requires Inv-loop μ-loop
-clear-requires c κs = search needs
-
 segments-requires : tie.Need-segments-requires Inv-loop μ-loop
 segments-requires c κs = search needs
 
@@ -33,13 +30,13 @@ loop-holds c = search needs
 
 segment-right-requires : tie.Need-segment-right-requires Inv-loop μ-loop
 segment-right-requires c κs =
-    let p = c .before .before .before .before .before .before .before .pre in
+    let p = c .before .before .before .before .before .pre in
     let inv = c .before .before .loop .inv in
     record { classed = p .0; all = inv .0; there = c .before .loop-test .taken; taken = p .1; long = inv .2 }
 
 returns : tie.Need-returns Inv-loop μ-loop
 returns c =
-    let ws = c .before .before .before .before .before .before .before .before .before .args .arena .now in
+    let ws = c .before .before .before .before .before .before .before .args .arena .now in
     let loop = c .before .before .before .before .loop in
     let wrong = sym (c .before .segment-right .ensures .judged) ∙ not-true _ (c .if1 .taken) in
     let inside : loop .s < segments ws = omega (arith, loop .inv .0, c .before .before .before .loop-test .taken) in
@@ -53,14 +50,14 @@ loop-less c = search needs
 
 loop-again : tie.Need-loop-again Inv-loop μ-loop
 loop-again c =
-    let ws = c .before .before .before .before .before .before .before .before .before .args .arena .now in
+    let ws = c .before .before .before .before .before .before .before .args .arena .now in
     let loop = c .before .before .before .before .loop in
     let right = sym (c .before .segment-right .ensures .judged) ∙ not-false _ (c .if1 .left) in
     (loop .inv .0, search needs, c .before .segment-right .ensures .long, all-below-step (loop .s) (segment-right ws) ∙ ap₂ _&&_ (loop .inv .3) right)
 
 returns-2 : tie.Need-returns-2 Inv-loop μ-loop
 returns-2 c =
-    let ws = c .before .before .before .before .before .before .args .arena .now in
+    let ws = c .before .before .before .before .args .arena .now in
     let loop = c .before .loop in
     let end : loop .s ≡ segments ws = omega (arith, loop .inv .0, loop .inv .1, c .loop-test .left) in
     sym (every-segment-right ws ∙ ap (λ (n : ℕ). all-below n (segment-right ws)) (sym end) ∙ loop .inv .3)
@@ -71,7 +68,6 @@ segments-right-spec =
     (tie.spec
     Inv-loop
     μ-loop
-    clear-requires
     segments-requires
     loop-holds
     segment-right-requires

@@ -2,10 +2,8 @@
 use Prim.Native.Nat.{ℕ, _+_}
 use native.Mathlib.Omega.{arith}
 use mathlib.Core.Path.{_∙_}
-use lib.ListN.{replicate}
 use lib.Seq.{getD-set-other}
 use borrow.Author.Needs.{needs}
-use Rattle.taken.proofs.RowLaws.{zeros}
 use Rattle.taken.proofs.row.blank.Statement.{statement}
 use Rattle.taken.proofs.row.blank.Tie as tie
 
@@ -16,7 +14,7 @@ returns : tie.Need-returns
 returns c = record {
   long = search needs;
   first = search needs;
-  behind = λ o. getD-set-other (replicate 8192 0) 0 (1 + o) 2147483648 0 (λ e. omega arith) ∙ zeros 8192 (1 + o);
+  behind = λ o. getD-set-other (c .args .row .now) 0 (1 + o) 2147483648 0 (λ e. omega arith) ∙ c .pre .zero (1 + o);
 }
 
 pub blank-spec : {M : Type 1} → statement M

@@ -43,7 +43,7 @@ loop-again c =
 returns : tie.Need-returns Inv-loop μ-loop
 returns c =
     let all : 64 * c .before .loop .s ≡ 64 * segments (c .before .before .before .before .before .before .args .arena .now) = omega arith in
-    filled-taken (c .before .before .before .before .before .before .pre .few) (rw all at (c .before .loop .inv .2))
+    filled-taken (c .before .before .before .before .before .before .pre .0 .few) (rw all at (c .before .loop .inv .2))
 
 pub fill-row-spec : {M : Type 1} → statement M
 fill-row-spec =
