@@ -12,7 +12,7 @@ use lib.Dec.{ltb}
 use borrow.Author.Tests.{lt-ltb, le-ltb}
 use Rattle.model.specs.Below.{count-below, first-from, first-below}
 use Rattle.model.specs.Class.{is-class, blocks}
-use Rattle.model.specs.View.{segments, place-rank, place-index, class, rank, bit-of, members, ranked}
+use Rattle.model.specs.View.{place-rank, place-index, class, rank, bit-of, members, ranked}
 use Rattle.model.specs.Standing.{taken-at}
 use Rattle.model.specs.Calls.{first-untaken, has-untaken, first-rank, class-has-untaken, given-segment, given-rank, given-index}
 use Rattle.laws.proofs.Below.{First, first-is, first-unique, count-below-fails}

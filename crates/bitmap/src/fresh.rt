@@ -10,7 +10,7 @@ use words::fields::record_head;
 use words::slices::clear;
 
 // The word in which a level ends: ones past the end.
-pub fn padding(end: u32) -> u32
+fn padding(end: u32) -> u32
     ensures { λ r. ⌜ r ≡ padding-word end ⌝ }
 {
     let b = end % 32;

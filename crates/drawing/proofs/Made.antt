@@ -5,14 +5,13 @@ use native.Mathlib.Decide.{decLt}
 use mathlib.Core.Path.{_≡_, refl, sym, ap, _∙_}
 use mathlib.Core.Logic.{_⊎_, inl, inr}
 use mathlib.Core.Bool.{Bool, true, false, or-true}
-use mathlib.Core.List.{List, _∷_}
-use lib.ListN.{length, getD, replicate, length-replicate, getD-replicate, List·getD-eq-default}
+use mathlib.Core.List.{List}
+use lib.ListN.{length, replicate, length-replicate, getD-replicate, List·getD-eq-default}
 use lib.Seq.{ext-getD}
-use Rattle.model.specs.Below.{count-below}
 use Rattle.model.specs.Word.{word, field, unnamed}
 use Rattle.model.specs.Class.{is-class}
-use Rattle.model.specs.Layout.{arena-length, arena-head, place-at, record-at}
-use Rattle.model.specs.View.{segments, place-rank, place-index, record-of, class, members}
+use Rattle.model.specs.Layout.{arena-length, place-at, record-at}
+use Rattle.model.specs.View.{segments, record-of, class, members}
 use Rattle.model.specs.Standing.{in-pool, is-taken, taken-count}
 use Rattle.model.specs.Sound.{sound}
 use Rattle.model.specs.Calls.{fresh, has-pool, allocate-refusal}

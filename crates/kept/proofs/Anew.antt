@@ -1,13 +1,13 @@
 -- Ranked anew: of the segments that stay each has a rank of its own below their number, full ones before the rest. Assumes nothing.
-use Prim.Native.Nat.{ℕ, zero, suc, _+_, _-_, _*_, _≤_, _<_}
+use Prim.Native.Nat.{ℕ, _+_, _-_, _≤_, _<_}
 use native.Mathlib.Omega.{arith}
-use native.Mathlib.Decide.{decLt, ℕ-discrete}
-use mathlib.Core.Path.{_≡_, refl, sym, ap, ap₂, _∙_}
-use mathlib.Core.Logic.{_≢_, _⊎_, inl, inr}
-use mathlib.Core.Bool.{Bool, true, false, cond, not, _&&_, _||_, true≢false}
+use native.Mathlib.Decide.{decLt}
+use mathlib.Core.Path.{_≡_, refl, sym, ap, _∙_}
+use mathlib.Core.Logic.{_≢_}
+use mathlib.Core.Bool.{Bool, true, false, not, _&&_, true≢false}
 use mathlib.Core.List.{List}
 use lib.Dec.{eqb, ltb}
-use borrow.Author.Tests.{eq-eqb, eqb-true, ltb-true, lt-ltb, le-ltb, not-true, not-false}
+use borrow.Author.Tests.{eq-eqb, eqb-true, ltb-true, lt-ltb, le-ltb, not-true}
 use Rattle.model.specs.Below.{count-below, one-if}
 use Rattle.model.specs.View.{segments, class, rank}
 use Rattle.model.specs.Standing.{in-pool}
@@ -16,7 +16,7 @@ use Rattle.laws.proofs.Below.{count-below-le}
 use Rattle.soundness.proofs.Tests.{and-left, and-right, and-intro}
 use Rattle.soundness.proofs.Facts.{Sound, Member}
 use Rattle.soundness.proofs.Ranks.{count-below-parts, rank-apart}
-use Rattle.kept.proofs.Counts.{count-below-less, count-below-imp}
+use Rattle.kept.proofs.Counts.{count-below-less}
 
 module _ (ws L : List ℕ) where
   -- the two groups of those that stay

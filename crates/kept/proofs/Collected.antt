@@ -1,15 +1,15 @@
 -- The words of a collected arena, part by part: its length and head, its places, its records and its areas. Assumes nothing.
-use Prim.Native.Nat.{ℕ, zero, suc, _+_, _-_, _*_, _/_, _%_, _^_, _≤_, _<_}
+use Prim.Native.Nat.{ℕ, suc, _+_, _-_, _*_, _/_, _%_, _^_, _≤_, _<_}
 use native.Mathlib.Omega.{arith}
 use mathlib.Core.Path.{_≡_, refl, sym, ap, ap₂, _∙_}
 use mathlib.Core.Bool.{Bool, true, false, cond}
-use mathlib.Core.List.{List, [], _∷_, _++_}
-use lib.ListN.{length, getD, take, drop, replicate, length-append, length-drop, length-replicate, List·getD-append}
-use lib.Seq.{getD-append-add, drop-append-add, drop-drop}
+use mathlib.Core.List.{List, _∷_, _++_}
+use lib.ListN.{length, take, drop, replicate, length-append, length-drop, length-replicate, List·getD-append}
+use lib.Seq.{drop-append-add, drop-drop}
 use Rattle.model.specs.Below.{words-below, lists-below}
 use Rattle.model.specs.Word.{word, part}
 use Rattle.model.specs.Class.{is-class, block-words}
-use Rattle.model.specs.Layout.{arena-length, record-words, place-at, record-at, area-at, block-at}
+use Rattle.model.specs.Layout.{arena-length, record-words, place-at, record-at, block-at}
 use Rattle.model.specs.View.{segments, record-of, class, block-of, block-offset}
 use Rattle.model.specs.Calls.{stays, new-rank, live, new-record, new-place, collected}
 use Rattle.model.specs.Ways.{listed}

@@ -2,7 +2,7 @@
 use Prim.Native.Nat.{ℕ, zero, suc, _+_, _*_, _≤_, _<_}
 use native.Mathlib.Omega.{arith}
 use native.Mathlib.Nat.{le-antisymm}
-use mathlib.Core.Path.{_≡_, refl, sym, ap, ap₂, _∙_}
+use mathlib.Core.Path.{_≡_, refl, ap, _∙_}
 use mathlib.Core.Bool.{Bool, true, false, _||_}
 use mathlib.Core.List.{List, [], _∷_}
 use lib.ListN.{length, getD}
@@ -19,7 +19,7 @@ use Rattle.ways.proofs.Count.{distinct-count}
 use Rattle.ways.proofs.Listed.{in-listed}
 use Rattle.ways.proofs.Arena.{taken-position}
 use Rattle.kept.proofs.Collected.{collected-segments}
-use Rattle.kept.proofs.Kept.{Closed, is-taken-after}
+use Rattle.kept.proofs.Kept.{is-taken-after}
 use Rattle.kept.proofs.Reached.{Collection, its-list, reachable-taken}
 
 either-count : (n : ℕ) (p q : ℕ → Bool) → count-below n (λ k. p k || q k) ≤ count-below n p + count-below n q

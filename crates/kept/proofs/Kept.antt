@@ -1,14 +1,13 @@
 -- A granted collection leaves a sound arena, in which exactly the listed blocks are taken, each with its words as before. Assumes nothing.
-use Prim.Native.Nat.{ℕ, zero, suc, _+_, _-_, _*_, _/_, _%_, _≤_, _<_}
+use Prim.Native.Nat.{ℕ, _+_, _-_, _/_, _%_, _≤_, _<_}
 use native.Mathlib.Omega.{arith}
 use native.Mathlib.Decide.{decLt, ℕ-discrete}
 use mathlib.Core.Path.{_≡_, refl, sym, ap, ap₂, _∙_}
-use mathlib.Core.Logic.{_≢_, _⊎_, inl, inr}
-use mathlib.Core.Bool.{Bool, true, false, cond, true≢false}
+use mathlib.Core.Logic.{_≢_}
+use mathlib.Core.Bool.{Bool, true, false, true≢false}
 use mathlib.Core.List.{List}
-use lib.ListN.{getD, replicate, getD-replicate}
-use lib.Dec.{eqb, ltb}
-use borrow.Author.Tests.{eq-eqb, ne-eqb, lt-ltb, le-ltb, eqb-true, eqb-false, ltb-true, ltb-false}
+use lib.ListN.{replicate, getD-replicate}
+use borrow.Author.Tests.{eq-eqb, ne-eqb, lt-ltb, le-ltb}
 use Rattle.model.specs.Word.{word, field, unnamed, bit}
 use Rattle.model.specs.Class.{is-class, blocks}
 use Rattle.model.specs.Layout.{handle, segment-of, index-of, place-at, place-word}
@@ -18,12 +17,12 @@ use Rattle.model.specs.Sound.{sound}
 use Rattle.model.specs.Ways.{listed}
 use Rattle.model.specs.Calls.{live, new-rank, stays, stays-full, staying, staying-full, new-place, collected}
 use Rattle.laws.proofs.Bits.{bit-zero}
-use Rattle.words.proofs.ClassLaws.{class-bounds, blocks-most}
+use Rattle.words.proofs.ClassLaws.{blocks-most}
 use Rattle.words.proofs.FieldLaws.{place-word-rank, place-word-index, place-word-unnamed, record-head-unnamed}
 use Rattle.words.proofs.HandleLaws.{handle-segment, handle-index, handle-back, index-small}
-use Rattle.soundness.proofs.Facts.{Sound, Member, Block, Place, Right, facts-sound, pool-or-member, taken-block}
+use Rattle.soundness.proofs.Facts.{Sound, Member, Block, Place, Right, facts-sound, taken-block}
 use Rattle.soundness.proofs.Ranks.{ranks-of}
-use Rattle.soundness.proofs.Taken.{ground-taken, no-ground-untaken, pool-untaken, past-untaken, no-block-untaken, handle-facts, facts-handle, is-taken-handle, is-taken-zero, none-zero, taken-none-or}
+use Rattle.soundness.proofs.Taken.{ground-taken, no-ground-untaken, pool-untaken, past-untaken, handle-facts, is-taken-handle, is-taken-zero, none-zero, taken-none-or}
 use Rattle.soundness.proofs.Taken.Ground.{marked}
 use Rattle.kept.proofs.Collected.{collected-sized, collected-segments, collected-head, collected-place, collected-block}
 use Rattle.kept.proofs.Anew.{new-rank-below, new-rank-apart, full-below, rest-from, staying-le}

@@ -1,33 +1,30 @@
 -- What a granted collection comes to, in the words of demands 2 and 3. Assumes nothing.
-use Prim.Native.Nat.{ℕ, zero, suc, _+_, _-_, _*_, _≤_, _<_}
+use Prim.Native.Nat.{ℕ, _-_, _≤_, _<_}
 use native.Mathlib.Omega.{arith}
-use native.Mathlib.Decide.{decLt, ℕ-discrete}
-use mathlib.Core.Path.{_≡_, refl, sym, ap, ap₂, _∙_}
+use native.Mathlib.Decide.{decLt}
+use mathlib.Core.Path.{_≡_, refl, sym, ap, _∙_}
 use mathlib.Core.Logic.{_≢_, _↔_, _⊎_, inl, inr}
 use mathlib.Core.Bool.{Bool, true, false, not}
-use mathlib.Core.List.{List, [], _∷_}
+use mathlib.Core.List.{List}
 use lib.ListN.{length, getD, take, List·getD-eq-default}
-use lib.Seq.{length-take-le}
-use lib.Dec.{eqb, ltb}
+use lib.Dec.{ltb}
 use borrow.Author.Tests.{lt-ltb, not-false}
-use Rattle.model.specs.Below.{all-below, count-below, one-if}
-use Rattle.model.specs.Class.{blocks}
+use Rattle.model.specs.Below.{all-below}
 use Rattle.model.specs.Layout.{handle, segment-of, index-of}
-use Rattle.model.specs.View.{segments, class, block, bit-of, r-in, reference-in}
+use Rattle.model.specs.View.{class, block, bit-of, r-in, reference-in}
 use Rattle.model.specs.Standing.{is-taken, none-or-taken, taken-count, shape-in, shape-of}
 use Rattle.model.specs.Sound.{sound}
 use Rattle.model.specs.Numbers.{refuse}
-use Rattle.model.specs.Ways.{Way, root, step, leads, Reachable, Listing, Drawing, drawing, refers-in, listed}
+use Rattle.model.specs.Ways.{step, Reachable, Listing, drawing, refers-in, listed}
 use Rattle.model.specs.Calls.{collect-refusal, Granted, collected}
 use Rattle.laws.proofs.Below.{all-below-at}
 use Rattle.words.proofs.ClassLaws.{blocks-most}
-use Rattle.soundness.proofs.Tests.{and-intro}
 use Rattle.soundness.proofs.Facts.{Sound, Block, sound-facts}
 use Rattle.soundness.proofs.Taken.{none-or-taken-cases, handle-facts}
 use Rattle.ways.proofs.Reach.{reachable-keeps, listed-reachable}
 use Rattle.ways.proofs.Listing.{Alike, Agree, same-drawing}
 use Rattle.ways.proofs.Arena.{drawing-bounded, taken-count-most}
-use Rattle.kept.proofs.Kept.{Closed, is-taken-after, block-after, bit-after, sound-after, collected-sound}
+use Rattle.kept.proofs.Kept.{Closed, is-taken-after, block-after, bit-after, collected-sound}
 
 -- the roots of a granted collection: each 0 or a taken block
 abbrev pub Rooted : List ℕ → List ℕ → Type 0

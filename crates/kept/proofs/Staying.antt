@@ -1,20 +1,20 @@
 -- The segments of a collected arena: one that stays has its class, its new rank, its live blocks as count and bits; any other is in the pool.
 -- Assumes nothing.
-use Prim.Native.Nat.{ℕ, zero, suc, _+_, _-_, _*_, _≤_, _<_}
+use Prim.Native.Nat.{ℕ, _-_, _≤_, _<_}
 use native.Mathlib.Omega.{arith}
 use mathlib.Core.Path.{_≡_, refl, sym, ap, ap₂, _∙_}
 use mathlib.Core.Logic.{_≢_}
-use mathlib.Core.Bool.{Bool, true, false, cond, not, _&&_, _||_, true≢false, and-true, and-false}
-use mathlib.Core.List.{List, _∷_}
-use lib.ListN.{getD, replicate}
-use lib.Dec.{eqb, ltb}
-use borrow.Author.Tests.{eq-eqb, ne-eqb, eqb-true, eqb-false, not-true, not-false}
+use mathlib.Core.Bool.{Bool, true, false, not, _&&_, true≢false, and-true, and-false}
+use mathlib.Core.List.{List}
+use lib.ListN.{replicate}
+use lib.Dec.{eqb}
+use borrow.Author.Tests.{ne-eqb, eqb-true, eqb-false, not-true, not-false}
 use Rattle.model.specs.Below.{count-below}
 use Rattle.model.specs.Word.{word, field}
 use Rattle.model.specs.Class.{is-class, blocks}
-use Rattle.model.specs.Layout.{handle, record-head, record-words, level-rows}
+use Rattle.model.specs.Layout.{handle, record-head, record-words}
 use Rattle.model.specs.View.{segments, record-of, class, rank, count, bit-in, bit-of, members}
-use Rattle.model.specs.Standing.{in-pool, is-taken}
+use Rattle.model.specs.Standing.{in-pool}
 use Rattle.model.specs.Sound.{levels-right}
 use Rattle.model.specs.Ways.{listed}
 use Rattle.model.specs.Calls.{live, stays, stays-full, staying, new-rank, new-record, collected}
@@ -25,7 +25,7 @@ use Rattle.bitmap.proofs.RecordLaws.{record-right, set-of-record}
 use Rattle.soundness.proofs.Tests.{and-left, and-fails-right}
 use Rattle.soundness.proofs.Facts.{Sound, Member}
 use Rattle.kept.proofs.Collected.{collected-record, collected-segments}
-use Rattle.kept.proofs.Anew.{new-rank-below, staying-le, full-stays}
+use Rattle.kept.proofs.Anew.{new-rank-below, staying-le}
 
 second : (a b : Bool) → a ≡ true → (a && b) ≡ false → b ≡ false
 second true b e f = f

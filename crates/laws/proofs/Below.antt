@@ -1,11 +1,11 @@
 -- Laws of tests, counts, sums and lists over the numbers below a bound, and of the first number that passes a test.
 -- Assumes nothing.
-use Prim.Native.Nat.{ℕ, zero, suc, _+_, _-_, _*_, _≤_, _<_, zero-le}
+use Prim.Native.Nat.{ℕ, zero, suc, _+_, _-_, _*_, _≤_, _<_}
 use mathlib.Core.Path.{_≡_, refl, sym, ap, ap₂, _∙_, subst}
 use mathlib.Core.Logic.{_⊎_, inl, inr, _≢_}
 use mathlib.Core.List.{List, [], _∷_, _++_}
 use mathlib.Core.Bool.{Bool, true, false, not, cond, _||_, _&&_, and-eq-true-iff, and-true, and-assoc, false≢true}
-use native.Mathlib.Nat.{eq-or-lt-of-le, le-of-suc-le-suc, le-refl, le-antisymm, lt-of-not-le, add-suc, add-zero, add-sub-of-le, add-le-add, add-assoc, zero-mul, suc-mul, mul-zero, mul-suc, one-mul, mul-le-mul-left, le-of-eq}
+use native.Mathlib.Nat.{eq-or-lt-of-le, le-of-suc-le-suc, le-refl, le-antisymm, lt-of-not-le, add-suc, add-zero, add-sub-of-le, add-assoc, zero-mul, suc-mul, mul-zero, mul-suc, one-mul, mul-le-mul-left, le-of-eq}
 use native.Mathlib.Decide.{decLe}
 use native.Mathlib.Omega.{arith}
 use native.Mathlib.Numerals.{add-one}
@@ -146,11 +146,6 @@ pub sum-below-ext : (n : ℕ) (f g : ℕ → ℕ) → ((k : ℕ) → k < n → f
 unfolding sum-below
 sum-below-ext zero f g h = refl
 sum-below-ext (suc n) f g h = ap₂ _+_ (sum-below-ext n f g (λ k l. h k (omega arith))) (h n (le-refl (suc n)))
-
-pub sum-below-mono : (n : ℕ) (f g : ℕ → ℕ) → ((k : ℕ) → k < n → f k ≤ g k) → sum-below n f ≤ sum-below n g
-unfolding sum-below
-sum-below-mono zero f g h = zero-le
-sum-below-mono (suc n) f g h = add-le-add (sum-below-mono n f g (λ k l. h k (omega arith))) (h n (le-refl (suc n)))
 
 -- two functions that agree but at j
 pub sum-below-change : (n : ℕ) (f g : ℕ → ℕ) (j : ℕ) → j < n → ((k : ℕ) → k < n → k ≢ j → f k ≡ g k)

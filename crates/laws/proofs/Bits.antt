@@ -10,7 +10,7 @@ use native.Mathlib.Numerals.{add-one, one-add}
 use lib.Dec.{eqb, eqb·suc-suc, eqb·suc-zero, eqb·zero-suc}
 use lib.Pow.{pow-pos, pow-mono, pow-lt, shr-shr, shr-le, high, low, field, mod-mod-pow, mod-pow-add}
 use lib.Arith.{digits-lt}
-use lib.Bits.{bitAnd, bitOr, and-step, or-step, and-shr, or-shr, or-lt, and-mask}
+use lib.Bits.{bitAnd, bitOr, and-step, or-step, and-shr, or-shr, or-lt}
 use lib.Count.{trailingZeros, under, ones-cat}
 use borrow.Author.Tests.{eq-eqb, ne-eqb, eqb-true}
 use Rattle.model.specs.Below.{one-if, all-below, count-below, sum-below, first-from}
@@ -153,10 +153,6 @@ bit-or-shift w b j h = rw (shl-one b h, bit-or, bit-pow, or-comm (bit w j))
 pub or-shift-lt : (w b : ℕ) → w < 2 ^ 32 → bitOr w (1 * 2 ^ b % 2 ^ 32) < 2 ^ 32
 or-shift-lt w b h = or-lt 32 w (1 * 2 ^ b % 2 ^ 32) h (mod-lt (1 * 2 ^ b) (pow-pos 32))
 
--- `w & ((1 << k) - 1)`
-pub and-low : (w k : ℕ) → k < 32 → bitAnd w (1 * 2 ^ k % 2 ^ 32 - 1) ≡ w % 2 ^ k
-and-low w k h = rw (shl-one k h) (and-mask w k)
-
 -- `!w`
 flip : (x y : ℕ) → x % 2 ≡ 1 - y % 2 → eqb (x % 2) 1 ≡ not (eqb (y % 2) 1)
 flip x y e = elim (digit y) [ inl d ↦ rw (e, d) | inr d ↦ rw (e, d) ]
@@ -216,9 +212,6 @@ full-all w h = go (all-below 32 (bit w)) refl
 
 pub full-of-bits : (w : ℕ) → w < 2 ^ 32 → ((b : ℕ) → b < 32 → bit w b ≡ true) → full w ≡ true
 full-of-bits w h f = full-all w h ∙ all-below-intro 32 (bit w) f
-
-pub ones-of-bits : (w : ℕ) → w < 2 ^ 32 → ((b : ℕ) → b < 32 → bit w b ≡ true) → w ≡ ones
-ones-of-bits w h f = eqb-true w ones (full-of-bits w h f)
 
 pub full-bit : (w b : ℕ) → b < 32 → full w ≡ true → bit w b ≡ true
 full-bit w b h e = ap (λ (x : ℕ). bit x b) (eqb-true w ones e) ∙ bit-ones b h

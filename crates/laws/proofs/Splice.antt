@@ -70,13 +70,6 @@ word-put-behind ws o xs k h l =
     let whole : k ≡ o + length xs + r = omega arith in
     rw (whole, ← getD-drop (o + length xs) ws r 0, ← getD-drop (o + length xs) (put ws o xs) r 0, drop-put ws o xs (o + length xs) h (le-refl (o + length xs)))
 
--- a part of what was put, and parts of what was not
-pub part-put-in : (ws : List ℕ) (o : ℕ) (xs : List ℕ) (a n : ℕ) → o + length xs ≤ length ws → a + n ≤ length xs
-    → part (put ws o xs) (o + a) n ≡ part xs a n
-part-put-in ws o xs a n h l =
-    part-ext (put ws o xs) xs (o + a) a n (omega (arith, length-put ws o xs h)) l
-    (λ k u. ap (word (put ws o xs)) (omega arith) ∙ word-put-in ws o xs (a + k) (omega arith) (omega arith))
-
 pub part-put : (ws : List ℕ) (o : ℕ) (xs : List ℕ) → o ≤ length ws → part (put ws o xs) o (length xs) ≡ xs
 part-put ws o xs h = rw (from-put ws o xs h) (take-at xs (drop (o + length xs) ws) (length xs) refl)
 
@@ -96,9 +89,6 @@ put-same ws o n h = rw (length-part ws o n h, ← drop-drop n o ws, take-append-
 pub put-one : (ws : List ℕ) (o v : ℕ) → o < length ws → put ws o (v ∷ []) ≡ set ws o v
 put-one ws o v h = rw add-one (sym (set-split ws o v h))
 
-pub put-put : (ws : List ℕ) (o : ℕ) (xs ys : List ℕ) → o ≤ length ws → length xs ≡ length ys → put (put ws o xs) o ys ≡ put ws o ys
-put-put ws o xs ys h e = rw (take-put ws o xs o h (le-refl o), drop-put ws o xs (o + length ys) h (omega arith))
-
 -- in the front, and in the rest
 pub put-append : (vs ws : List ℕ) (o : ℕ) (xs : List ℕ) → o + length xs ≤ length vs → put (vs ++ ws) o xs ≡ put vs o xs ++ ws
 put-append vs ws o xs h =
@@ -107,24 +97,6 @@ put-append vs ws o xs h =
 
 pub put-append-rest : (vs ws : List ℕ) (n o : ℕ) (xs : List ℕ) → n ≡ length vs + o → put (vs ++ ws) n xs ≡ vs ++ put ws o xs
 put-append-rest vs ws n o xs e = rw (e, take-append-add, add-assoc, drop-append-add, append-assoc)
-
--- apart, in either order
-pub put-comm : (ws : List ℕ) (o : ℕ) (xs : List ℕ) (p : ℕ) (ys : List ℕ) → o + length xs ≤ p → p + length ys ≤ length ws
-    → put (put ws o xs) p ys ≡ put (put ws p ys) o xs
-put-comm ws o xs p ys h l =
-    ap (λ (us : List ℕ). put (put us o xs) p ys) (sym (take-append-drop p ws))
-    ∙ both (take p ws) (drop p ws) (length-take-le p ws (omega arith))
-    ∙ ap (λ (us : List ℕ). put (put us p ys) o xs) (take-append-drop p ws)
-  where
-    both : (vs us : List ℕ) → length vs ≡ p → put (put (vs ++ us) o xs) p ys ≡ put (put (vs ++ us) p ys) o xs
-    both vs us e =
-        let fits : o + length xs ≤ length vs = omega arith in
-        rw (
-          put-append vs us o xs fits,
-          put-append-rest (put vs o xs) us p 0 ys (omega (arith, length-put vs o xs fits)),
-          put-append-rest vs us p 0 ys (omega arith),
-          put-append vs (put us 0 ys) o xs fits,
-        )
 
 -- what a lent part becomes: `putMid a (e - a) ws ys` of `borrow.Rule.Slice.PartMut`
 pub put-mid : (a n : ℕ) (ws ys : List ℕ) → length ys ≡ n → take a ws ++ (ys ++ drop n (drop a ws)) ≡ put ws a ys

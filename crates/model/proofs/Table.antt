@@ -3,7 +3,7 @@
 use Prim.Native.Nat.{ℕ}
 use mathlib.Core.Path.{_≡_, refl}
 use mathlib.Core.Bool.{false}
-use mathlib.Core.List.{List, [], _∷_, map}
+use mathlib.Core.List.{[], _∷_, map}
 use lib.ListN.{getD}
 use Rattle.model.specs.Below.{count-below, sum-below, lists-below, first-from}
 use Rattle.model.specs.Word.{word-of-bits}

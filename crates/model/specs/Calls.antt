@@ -1,9 +1,9 @@
 -- The promise of every public call: over the words at entry, the arguments, the answer and the words at exit, for all inputs and all refusals.
 -- Assumes nothing.
-use Prim.Native.Nat.{ℕ, zero, suc, _+_, _-_, _*_, _≤_}
+use Prim.Native.Nat.{ℕ, _+_, _-_, _≤_}
 use mathlib.Core.Path.{_≡_}
 use mathlib.Core.Logic.{_≢_}
-use mathlib.Core.Bool.{Bool, true, false, not, cond, _&&_, _||_}
+use mathlib.Core.Bool.{Bool, false, not, cond, _&&_, _||_}
 use mathlib.Core.List.{List, [], _∷_, _++_}
 use lib.ListN.{length, getD, take, drop, replicate}
 use lib.Dec.{eqb, leb, ltb}
@@ -11,7 +11,7 @@ use Rattle.model.specs.Below.{all-below, count-below, sum-below, words-b
 use Rattle.model.specs.Word.{word, put}
 use Rattle.model.specs.Class.{is-class, blocks, block-words, class-of}
 use Rattle.model.specs.Layout.{arena-length, arena-head, place-at, place-word, record-at, record-words, block-at, header-word, handle}
-use Rattle.model.specs.View.{segments, record-of, class, rank, members, ranked, n-in, r-in, reference-in, plain-in, plain-words-in, offset, block}
+use Rattle.model.specs.View.{segments, class, rank, members, ranked, n-in, r-in, reference-in, plain-in, plain-words-in, offset, block}
 use Rattle.model.specs.Standing.{in-pool, taken-at, is-taken, none-or-taken, taken-count, shape-of, standing-of}
 use Rattle.model.specs.Sound.{sound}
 use Rattle.model.specs.Numbers.{Paper, paper, refuse, granted, shape-values, standing-values, made-paper, allocated-paper, stood-paper, shaped-paper, read-paper, written-paper, room-paper, collected-paper}

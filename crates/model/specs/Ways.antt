@@ -1,7 +1,7 @@
 -- Ways, their order, and the list of a collection (demand 3). "A way is a root position (zeros and doubles count as positions) and then
 -- reference field positions, all from 0."
 -- Assumes nothing.
-use Prim.Native.Nat.{ℕ, zero, suc, _+_, _<_}
+use Prim.Native.Nat.{ℕ, suc, _+_, _<_}
 use mathlib.Core.Path.{_≡_}
 use mathlib.Core.Logic.{_⊎_, _≢_}
 use mathlib.Core.Bool.{Bool, cond, _&&_, _||_, false}

@@ -14,7 +14,7 @@ use borrow.Author.Tests.{eqb-true, eqb-false, eq-eqb, ne-eqb, leb-true, leb-fals
 use Rattle.model.specs.Below.{all-below, count-below}
 use Rattle.model.specs.Word.{word, part, unnamed}
 use Rattle.model.specs.Class.{is-class, every-class, blocks, block-words, class-of}
-use Rattle.model.specs.Layout.{arena-length, place-at, record-at, area-at}
+use Rattle.model.specs.Layout.{arena-length, place-at, record-at}
 use Rattle.model.specs.View.{segments, place-rank, place-index, record-of, class, rank, count, bit-of, members, block-offset, block-of, n-in, r-in, reference-in}
 use Rattle.model.specs.Standing.{in-pool, is-block, before-place, taken-at, none-or-taken}
 use Rattle.model.specs.Sound.{every-member, sized, unnamed-zero, classes, ranks, levels-right, levels, counts, behind, place-right, places, block-right, taken-right, sound}
@@ -96,13 +96,6 @@ facts-sized ws z =
 -- records lie in the arena, before the areas
 pub record-inside : (ws : List ℕ) → Sized ws → (s : ℕ) → s < segments ws → record-at s + 68 ≤ length ws
 record-inside ws z s l = omega (arith, z .long)
-
-pub record-before-areas : (N s t : ℕ) → s < N → record-at s + 68 ≤ area-at N t
-record-before-areas N s t l = omega arith
-
--- the places lie before the records
-pub place-before-records : (i s : ℕ) → is-class i ≡ true → (0 < place-at i) × (place-at i < record-at s)
-place-before-records i s c = omega (arith, class-bounds i c)
 
 pub record-length : (ws : List ℕ) → Sized ws → (s : ℕ) → s < segments ws → length (record-of ws s) ≡ 68
 unfolding record-of
@@ -445,9 +438,6 @@ class-member ws s i c l e = record { below = l; used = ne-eqb (class ws s) 0 (λ
 pub block-end : (ws : List ℕ) → Sized ws → (s k : ℕ) → is-class (class ws s) ≡ true → Block ws s k
     → block-offset ws s k + block-words (class ws s) ≤ length ws
 block-end ws z s k c b = omega (arith, z .long, block-in-arena (segments ws) s (class ws s) k (b .member .below) c (b .inside))
-
-pub block-behind-records : (ws : List ℕ) (s k t : ℕ) → t < segments ws → record-at t + 68 ≤ block-offset ws s k
-block-behind-records ws s k t l = omega arith
 
 pub block-length : (ws : List ℕ) → Sized ws → (s k : ℕ) → is-class (class ws s) ≡ true → Block ws s k
     → length (block-of ws s k) ≡ block-words (class ws s)

@@ -14,10 +14,9 @@ use borrow.Author.Tests.{eqb-true, eq-eqb, ne-eqb, eqb-false, ltb-true, ltb-fals
 use Rattle.model.specs.Below.{one-if, count-below, sum-below, first-below}
 use Rattle.model.specs.Class.{is-class}
 use Rattle.model.specs.View.{segments, class, rank, members, ranked}
-use Rattle.model.specs.Sound.{ranks}
 use Rattle.laws.proofs.Below.{up-to, First, first-is, count-below-ext, count-below-none, count-below-finds, count-below-pos, count-below-le, count-below-change}
 use Rattle.soundness.proofs.Tests.{and-left, and-right, and-intro, and-fails-right, never, either}
-use Rattle.soundness.proofs.Facts.{Member, Ranks, facts-ranks, Sound, class-member}
+use Rattle.soundness.proofs.Facts.{Member, Ranks, Sound, class-member}
 
 -- ---- counts of two tests, and of one
 
@@ -205,9 +204,6 @@ module _ (ws : List ℕ) where
       (λ s u t. omega (arith, low s (member s u t), ap (members ws) (is s t)))
       (λ s t ls lt us ut e. apart s t (member s ls us) (member t lt ut) (is s us ∙ sym (is t ut)) e)
       q l
-
-  pub apart-ranks : RanksBelow ws → RanksApart ws → ranks ws ≡ true
-  apart-ranks low apart = facts-ranks ws (ranks-of low apart)
 
   module _ (sound : Sound ws) where
     -- the rank of a member is below the number of members of its class

@@ -1,27 +1,27 @@
 -- Taken: when a block is taken, which handles are those of taken blocks, how many there are, what the standing of a handle is, and that the
 -- fields of a taken block of a sound arena lie inside the block.
 -- Assumes nothing.
-use Prim.Native.Nat.{ℕ, _+_, _-_, _*_, _≤_, _<_}
+use Prim.Native.Nat.{ℕ, _+_, _-_, _≤_, _<_}
 use mathlib.Core.Path.{_≡_, refl, sym, ap, ap₂, _∙_}
 use mathlib.Core.Logic.{_⊎_, inl, inr, _≢_}
 use mathlib.Core.Bool.{Bool, true, false, not, _&&_, _||_}
 use mathlib.Core.List.{List}
 use native.Mathlib.Omega.{arith}
-use native.Mathlib.Nat.{mul-comm, add-sub-of-le, add-assoc}
+use native.Mathlib.Nat.{add-sub-of-le, add-assoc}
 use lib.Dec.{eqb, ltb}
 use borrow.Author.Tests.{eqb-true, eqb-false, eq-eqb, ne-eqb, ltb-true, ltb-false, lt-ltb, not-true}
-use Rattle.model.specs.Below.{count-below, sum-below}
-use Rattle.model.specs.Word.{word, part}
+use Rattle.model.specs.Below.{count-below}
+use Rattle.model.specs.Word.{part}
 use Rattle.model.specs.Class.{is-class, blocks, block-words}
 use Rattle.model.specs.Layout.{handle, segment-of, index-of}
-use Rattle.model.specs.View.{segments, place-rank, place-index, class, rank, bit-of, block-of, block-offset, n-in, r-in, reference-in, plain-in, plain-words-in}
-use Rattle.model.specs.Standing.{in-pool, is-block, before-place, taken-at, is-taken, none-or-taken, taken-count, shape-of, standing-of}
+use Rattle.model.specs.View.{segments, place-rank, place-index, class, rank, bit-of, block-of, block-offset, n-in, r-in, plain-words-in}
+use Rattle.model.specs.Standing.{in-pool, is-block, before-place, taken-at, is-taken, none-or-taken, shape-of, standing-of}
 use Rattle.model.specs.declared.Standing.the-variants.{None, Outside, Free, Taken}
-use Rattle.laws.proofs.Below.{sum-below-ext, count-below-ext, count-below-add, count-below-none, count-below-le, count-below-product}
-use Rattle.words.proofs.ClassLaws.{blocks-most, class-high, class-room, class-bounds}
+use Rattle.laws.proofs.Below.{count-below-add, count-below-none}
+use Rattle.words.proofs.ClassLaws.{blocks-most, class-room}
 use Rattle.words.proofs.HandleLaws.{handle-segment, handle-index}
 use Rattle.soundness.proofs.Tests.{never, and-left, and-right, and-intro, and-fails-left, or-cases, or-left, or-right, same-test, not-passed}
-use Rattle.soundness.proofs.Facts.{Member, Block, facts-block, taken-block, Sound, block-word, block-part, pool-or-member}
+use Rattle.soundness.proofs.Facts.{Member, Block, facts-block, taken-block, Sound, block-part, pool-or-member}
 
 -- ---- when a block is taken
 
@@ -167,10 +167,6 @@ module _ (ws : List ℕ) where
   pub taken-none-or : (h : ℕ) → is-taken ws h ≡ true → none-or-taken ws h ≡ true
   taken-none-or h t = or-right (eqb h 0) (is-taken ws h) t
 
-  -- it is at most 2,048 N
-  pub taken-le : (h : ℕ) → is-taken ws h ≡ true → h ≤ 2048 * segments ws
-  taken-le h t = omega (arith, handle-facts h t .its-block .member .below)
-
   -- ---- how many are taken
 
   -- only the first of 2,048 indices can be blocks
@@ -190,20 +186,6 @@ module _ (ws : List ℕ) where
             ap (λ (x : ℕ). count-below x (taken-at ws s)) (sym (add-sub-of-le most)) ∙ count-below-add b (2048 - b) (taken-at ws s),
             count-below-none (2048 - b) (λ k. taken-at ws s (b + k)) (λ k _. past-untaken ws s (b + k) (omega arith)),
           )
-
-  -- the taken blocks are those of all segments
-  pub taken-count-sum : ((s : ℕ) → Member ws s → is-class (class ws s) ≡ true)
-      → taken-count ws ≡ sum-below (segments ws) (λ s. count-below (blocks (class ws s)) (taken-at ws s))
-  unfolding taken-count
-  taken-count-sum classed =
-      ap (λ (x : ℕ). count-below x (λ x. is-taken ws (x + 1))) (mul-comm 2048 (segments ws))
-      ∙ count-below-product (segments ws) 2048 (λ x. is-taken ws (x + 1))
-      ∙ sum-below-ext (segments ws) (λ s. count-below 2048 (λ k. is-taken ws (s * 2048 + k + 1))) (λ s. count-below (blocks (class ws s)) (taken-at ws s))
-      (λ s l. count-below-ext 2048 (λ k. is-taken ws (s * 2048 + k + 1)) (taken-at ws s) (λ k u. is-taken-handle s k u) ∙ count-in s l classed)
-
-  pub taken-count-le : taken-count ws ≤ 2048 * segments ws
-  unfolding taken-count
-  taken-count-le = count-below-le (2048 * segments ws) (λ x. is-taken ws (x + 1))
 
 -- ---- the standing of a handle
 
@@ -241,10 +223,6 @@ module _ (ws : List ℕ) (sound : Sound ws) (s k : ℕ) (t : taken-at ws s k ≡
   pub taken-n-room : 1 + n-in (block-of ws s k) ≤ block-words (class ws s)
   taken-n-room = omega (arith, class-room (n-in (block-of ws s k)) (class ws s) (sound .right s k t .fits))
 
-  pub taken-n-small : n-in (block-of ws s k) ≤ 1023
-  taken-n-small =
-      class-high (n-in (block-of ws s k)) .0 (omega (arith, sound .right s k t .fits, class-bounds (class ws s) taken-class))
-
   pub taken-r-within : r-in (block-of ws s k) ≤ n-in (block-of ws s k)
   taken-r-within = sound .right s k t .within
 
@@ -254,13 +232,6 @@ module _ (ws : List ℕ) (sound : Sound ws) (s k : ℕ) (t : taken-at ws s k ≡
 
   pub plain-inside : (f : ℕ) → f < n-in (block-of ws s k) - r-in (block-of ws s k) → 1 + r-in (block-of ws s k) + f < block-words (class ws s)
   plain-inside f l = omega (arith, taken-n-room)
-
-  pub reference-word : (f : ℕ) → f < r-in (block-of ws s k) → reference-in (block-of ws s k) f ≡ word ws (block-offset ws s k + 1 + f)
-  reference-word f l = block-word ws s k (1 + f) (reference-inside f l) ∙ ap (word ws) (sym (add-assoc (block-offset ws s k) 1 f))
-
-  pub plain-word : (f : ℕ) → f < n-in (block-of ws s k) - r-in (block-of ws s k)
-      → plain-in (block-of ws s k) f ≡ word ws (block-offset ws s k + 1 + r-in (block-of ws s k) + f)
-  plain-word f l = block-word ws s k (1 + r-in (block-of ws s k) + f) (plain-inside f l) ∙ ap (word ws) (omega arith)
 
   pub plain-words : plain-words-in (block-of ws s k) ≡ part ws (block-offset ws s k + 1 + r-in (block-of ws s k)) (n-in (block-of ws s k) - r-in (block-of ws s k))
   plain-words =

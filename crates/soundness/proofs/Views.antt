@@ -4,21 +4,20 @@
 use Prim.Native.Nat.{ℕ, suc, _+_, _*_, _≤_, _<_}
 use mathlib.Core.Path.{_≡_, refl, sym, ap, ap₂, _∙_, subst}
 use mathlib.Core.Logic.{_⊎_, inl, inr, _≢_}
-use mathlib.Core.Bool.{Bool, true, false, not, cond, _&&_, _||_}
+use mathlib.Core.Bool.{Bool, true, false, not, _&&_, _||_}
 use mathlib.Core.List.{List, [], _∷_}
 use native.Mathlib.Omega.{arith}
 use native.Mathlib.Decide.{decLt}
 use lib.ListN.{length, take, drop}
 use lib.Dec.{eqb, ltb}
 use borrow.Author.Tests.{ltb-true}
-use Rattle.model.specs.Below.{one-if, count-below, sum-below, first-below}
+use Rattle.model.specs.Below.{one-if, count-below}
 use Rattle.model.specs.Word.{word, part, put, field}
 use Rattle.model.specs.Class.{is-class, blocks, block-words}
 use Rattle.model.specs.Layout.{place-at, record-at, block-at, segment-of, index-of}
-use Rattle.model.specs.View.{segments, place-rank, place-index, record-of, class-in, rank-in, count-in, bit-in, class, rank, count, bit-of, members, ranked, block-of, block-offset, block}
-use Rattle.model.specs.Standing.{in-pool, is-block, before-place, taken-at, is-taken, none-or-taken, taken-count, standing-of}
-use Rattle.model.specs.Calls.{room}
-use Rattle.laws.proofs.Below.{sum-below-ext, count-below-ext, count-below-change, first-ext}
+use Rattle.model.specs.View.{segments, place-rank, place-index, record-of, class-in, rank-in, count-in, bit-in, class, rank, count, bit-of, members, block-of, block-offset}
+use Rattle.model.specs.Standing.{in-pool, is-block, before-place, taken-at, is-taken, none-or-taken, taken-count}
+use Rattle.laws.proofs.Below.{count-below-ext, count-below-change}
 use Rattle.laws.proofs.Splice.{length-part, length-put, word-put-in, word-put-before, word-put-behind, part-put, part-put-before, part-put-behind, drop-put, put-in-part}
 use Rattle.words.proofs.ClassLaws.{class-bounds}
 use Rattle.words.proofs.HandleLaws.{blocks-apart, segments-apart}
@@ -65,13 +64,6 @@ module _ (vs ws : List ℕ) (same : SameRecords vs ws) where
   same-members i =
       ap (λ (N : ℕ). count-below N (λ s. eqb (class vs s) i)) same-segments
       ∙ count-below-ext (segments ws) (λ s. eqb (class vs s) i) (λ s. eqb (class ws s) i) (λ s l. ap (λ (j : ℕ). eqb j i) (same-class s l))
-
-  pub same-ranked : (i q : ℕ) → ranked vs i q ≡ ranked ws i q
-  unfolding ranked
-  same-ranked i q =
-      ap (λ (N : ℕ). first-below N (λ s. eqb (class vs s) i && eqb (rank vs s) q)) same-segments
-      ∙ first-ext 0 (segments ws) (λ s. eqb (class vs s) i && eqb (rank vs s) q) (λ s. eqb (class ws s) i && eqb (rank ws s) q)
-      (λ s _ l. ap (λ (rec : List ℕ). eqb (class-in rec) i && eqb (rank-in rec) q) (same .records s (omega arith)))
 
   pub same-is-block : (s k : ℕ) → is-block vs s k ≡ is-block ws s k
   unfolding is-block
@@ -134,22 +126,6 @@ module _ (vs ws : List ℕ) (front : SameFront vs ws) where
   same-taken-count =
       ap (λ (N : ℕ). count-below (2048 * N) (λ x. is-taken vs (x + 1))) (same-segments vs ws (front .same-records))
       ∙ count-below-ext (2048 * segments ws) (λ x. is-taken vs (x + 1)) (λ x. is-taken ws (x + 1)) (λ x _. same-is-taken (x + 1))
-
-  pub same-room : (i : ℕ) → room vs i ≡ room ws i
-  unfolding room
-  same-room i =
-      ap (λ (N : ℕ). sum-below N (in-segment vs)) (same-segments vs ws (front .same-records))
-      ∙ sum-below-ext (segments ws) (in-segment vs) (in-segment ws) (λ s l.
-      ap₂ (λ (j c : ℕ). cond (eqb j i) c 0) (same-class vs ws (front .same-records) s l)
-      (count-below-ext (blocks i) (λ k. not (taken-at vs s k)) (λ k. not (taken-at ws s k)) (λ k _. ap not (same-taken s k))))
-    where
-      in-segment : List ℕ → ℕ → ℕ
-      in-segment us s = cond (eqb (class us s) i) (count-below (blocks i) (λ k. not (taken-at us s k))) 0
-
-  -- the same standing, where the block's header is as before
-  pub same-standing : (h : ℕ) → word (block vs h) 0 ≡ word (block ws h) 0 → standing-of vs h ≡ standing-of ws h
-  unfolding standing-of
-  same-standing h e = rw (e, same-is-block vs ws (front .same-records) (segment-of h) (index-of h), same-taken (segment-of h) (index-of h))
 
 -- ---- a put inside a part, and blocks apart
 
@@ -282,10 +258,6 @@ module _ (ws : List ℕ) (z : Sized ws) (i : ℕ) (c : is-class i ≡ true) (w :
       same-block-part (put ws (place-at i) (w ∷ [])) ws place-put-records s l k
       ∙ ap (take (block-words (class ws s))) (place-put-rest (block-offset ws s k) (omega arith))
 
-  pub place-put-taken : (s k : ℕ) → class ws s ≢ i → taken-at (put ws (place-at i) (w ∷ [])) s k ≡ taken-at ws s k
-  place-put-taken s k apart =
-      taken-same (put ws (place-at i) (w ∷ [])) ws s k (place-put-records .head) (place-put-record s) (place-put-other (class ws s) apart)
-
 -- ---- one record written
 
 module _ (ws : List ℕ) (z : Sized ws) (s : ℕ) (l : s < segments ws) (rec : List ℕ) (long : length rec ≡ 68) where
@@ -333,13 +305,6 @@ module _ (ws : List ℕ) (z : Sized ws) (s : ℕ) (l : s < segments ws) (rec : L
   unfolding block-of
   record-put-block t k apart =
       rw (record-put-other t apart, record-put-head) (ap (take (block-words (class ws t))) (record-put-areas (block-offset ws t k) (omega arith)))
-
-  pub record-put-own-block : (k : ℕ)
-      → block-of (put ws (record-at s) rec) s k ≡ part ws (block-at (segments ws) s (class-in rec) k) (block-words (class-in rec))
-  unfolding block-of
-  record-put-own-block k =
-      rw (record-put-same, record-put-head)
-      (ap (take (block-words (class-in rec))) (record-put-areas (block-at (segments ws) s (class-in rec) k) (omega arith)))
 
   pub record-put-taken : (t k : ℕ) → t ≢ s → class ws t ≤ 12 → taken-at (put ws (record-at s) rec) t k ≡ taken-at ws t k
   record-put-taken t k apart u =

@@ -6,24 +6,23 @@ use mathlib.Core.Bool.{Bool, true, false, not, _&&_, cond, and-true, and-false}
 use mathlib.Core.List.{List}
 use native.Mathlib.Nat.{mul-add, mul-suc, add-zero, mul-le-mul-left, mul-le-mul-right}
 use native.Mathlib.Omega.{arith}
-use lib.Dec.{eqb, ltb}
-use lib.ListN.{length, take, set, length-set}
+use lib.Dec.{eqb}
+use lib.ListN.{length, set, length-set}
 use lib.Seq.{getD-set-same, getD-set-other}
 use borrow.Author.Count.{below-more}
 use borrow.Author.Tests.{lt-ltb, le-ltb, ne-eqb}
 use Rattle.model.specs.Below.{one-if, all-below}
 use Rattle.model.specs.Word.{word, part}
-use Rattle.model.specs.Class.{is-class, blocks, block-words}
+use Rattle.model.specs.Class.{is-class, block-words}
 use Rattle.model.specs.Layout.{arena-length, block-at}
 use Rattle.model.specs.View.{class, block-of, r-in}
-use Rattle.model.specs.Standing.{taken-at}
 use Rattle.laws.proofs.Below.{all-below-at, all-below-intro, all-below-ext, all-below-step, all-below-add, all-below-split}
 use Rattle.laws.proofs.Splice.{length-part, part-part}
 use Rattle.words.proofs.ClassLaws.{bounds-class, blocks-fill}
 use Rattle.words.proofs.HandleLaws.{block-in-arena}
-use Rattle.taken.specs.Gather.{all-words, header-right, references-in, headed, references-of, GatheredBelow, Of, AtFull}
+use Rattle.taken.specs.Gather.{all-words, header-right, references-in, headed, references-of, GatheredBelow, AtFull}
 use Rattle.taken.specs.Beside.{Beside, beside, reference-or-none, FieldsPut, InColumns, AddedBeside}
-use Rattle.taken.proofs.GatherLaws.{all-words-take, all-words-part, header-room, headed-taken, references-taken, block-handed, of-class}
+use Rattle.taken.proofs.GatherLaws.{all-words-take, all-words-part, header-room, headed-taken, references-taken, block-handed}
 
 -- ---- tests, field by field and block by block
 

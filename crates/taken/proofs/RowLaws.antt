@@ -23,7 +23,7 @@ use Rattle.model.specs.View.{segments, place-rank, place-index, record-of, clas
 use Rattle.model.specs.Standing.{in-pool, is-block, before-place, taken-at, is-taken, none-or-taken, taken-count}
 use Rattle.laws.proofs.Below.{all-below-step, count-below-ext, count-below-add}
 use Rattle.laws.proofs.Splice.{length-part}
-use Rattle.laws.proofs.Bits.{bit-zero, bit-low, bit-ones, bit-past, bit-pow, bit-shift, bit-and, bit-or, bit-word-of-bits, word-of-bits-lt, word-of-bits-ext, word-ext}
+use Rattle.laws.proofs.Bits.{bit-zero, bit-ones, bit-past, bit-pow, bit-shift, bit-and, bit-or, bit-word-of-bits, word-of-bits-lt, word-of-bits-ext, word-ext}
 use Rattle.arena.specs.Rows.{row-bit}
 use Rattle.taken.specs.Row.{asked-bit, TakenRow, row-taken, row-none-or-taken, Limit, row-word, Filled, ZeroRow, Blank, Fill, taken-word, Segment, AskedBelow}
 

@@ -9,7 +9,7 @@ use lib.ListN.{length, getD}
 use lib.Dec.{eqb, ltb}
 use Rattle.model.specs.Below.{all-below}
 use Rattle.model.specs.Word.{word, bit, word-of-bits}
-use Rattle.model.specs.Class.{is-class, blocks, words-for}
+use Rattle.model.specs.Class.{is-class, blocks}
 use Rattle.model.specs.Layout.{arena-length}
 use Rattle.model.specs.View.{segments, class}
 use Rattle.model.specs.Standing.{in-pool, before-place, taken-at, none-or-taken}

@@ -248,9 +248,6 @@ module _ {ws roots list : List ℕ} {N head tail : ℕ} {list' marks' : List ℕ
   so-far-tail =
       omega (arith, so-far-most, count-below-le (2048 * segments ws) (λ x. is-taken ws (x + 1)), sound-facts ws right .size .few)
 
-  pub so-far-head : head ≤ tail
-  so-far-head = omega (arith, s .inv .head, long)
-
   -- a turn
   pub so-far-turn : (row : List ℕ) → head < tail → taken-count ws ≤ length list' → 1 + 64 * N ≤ length marks' → 1023 ≤ length row →
       Turn ws N list' head tail marks' row

@@ -1,16 +1,16 @@
 -- The drawing that an arena holds is as the trace asks: handle 0 refers to nothing, and a block to nothing from its r on. The fields of a taken
 -- block are the references that its words hold, and distinct taken blocks are at most as many as the taken blocks.
 -- Assumes nothing.
-use Prim.Native.Nat.{ℕ, zero, suc, _+_, _-_, _*_, _<_, _≤_}
-use mathlib.Core.Path.{_≡_, refl, ap₂, subst}
+use Prim.Native.Nat.{ℕ, _+_, _-_, _*_, _<_, _≤_}
+use mathlib.Core.Path.{_≡_, refl, subst}
 use mathlib.Core.Logic.{_≢_}
 use mathlib.Core.Bool.{Bool, true, false, cond, not, _&&_, _||_, and-eq-true-iff}
-use mathlib.Core.List.{List, [], _∷_, _++_}
+use mathlib.Core.List.{List}
 use native.Mathlib.Omega.{arith}
 use lib.ListN.{length, getD}
 use lib.Dec.{ltb, eqb}
 use borrow.Author.Tests.{lt-ltb, le-ltb, ltb-true, eqb-false, not-true}
-use Rattle.model.specs.Below.{words-below, lists-below}
+use Rattle.model.specs.Below.{words-below}
 use Rattle.model.specs.Class.{blocks}
 use Rattle.model.specs.Layout.{segment-of, index-of}
 use Rattle.model.specs.View.{segments, class, bit-of, block, r-in, reference-in}

@@ -10,7 +10,6 @@ use lib.ListN.{length, getD}
 use lib.Dec.{eqb}
 use borrow.Author.Tests.{eqb-true, eqb-false}
 use Rattle.model.specs.Below.{count-below, one-if}
-use Rattle.model.specs.Ways.{Drawing, Listing}
 use Rattle.ways.proofs.Listed.{Distinct}
 
 -- f 0, .., f (n - 1) are distinct numbers below B that pass p
@@ -83,8 +82,3 @@ distinct-count L B p apart at = pigeonhole B p (length L) (λ k. getD L k 0 - 1)
   passes = λ k l. let x = at k l in let e : getD L k 0 - 1 ≡ x .0 = omega (arith, x) in rw e (x .3);
   apart = λ j k l m. omega (arith, at j (omega arith), at k m, apart j k l m);
 })
-
--- a collection lists at most as many blocks as pass
-pub listing-count : {D : Drawing} {L : List ℕ} → Listing D L → (B : ℕ) (p : ℕ → Bool) →
-    ((k : ℕ) → k < length L → (x : ℕ) × (x < B) × (getD L k 0 ≡ x + 1) × (p x ≡ true)) → length L ≤ count-below B p
-listing-count {D} {L} a B p at = distinct-count L B p (a .once) at

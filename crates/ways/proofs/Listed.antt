@@ -2,7 +2,7 @@
 -- Assumes nothing.
 use Prim.Native.Nat.{ℕ, zero, suc, _<_}
 use mathlib.Core.Path.{_≡_, refl, sym, _∙_}
-use mathlib.Core.Logic.{_⊎_, inl, inr, _↔_, _≢_}
+use mathlib.Core.Logic.{_⊎_, inl, inr, _≢_}
 use mathlib.Core.Bool.{Bool, true, false, _||_, false≢true}
 use mathlib.Core.List.{List, [], _∷_, _++_}
 use native.Mathlib.Omega.{arith}
@@ -40,9 +40,6 @@ at-listed (g ∷ L) h (suc k) l e = or-true (eqb g h) (listed L h) (at-listed L 
 
 pub in-listed : (L : List ℕ) (h : ℕ) → In h L → listed L h ≡ true
 in-listed L h i = at-listed L h (i .0) (i .1) (i .2)
-
-pub listed-iff : (L : List ℕ) (h : ℕ) → (listed L h ≡ true) ↔ In h L
-listed-iff L h = (listed-in L h, in-listed L h)
 
 -- a place of a list with one more is one of before or the last
 

@@ -1,7 +1,7 @@
 -- Putting handles on a list, one after the other: 0 and what is there already are passed over, the rest goes on its end. The list only grows
 -- at its end, nothing is put on twice, what is there is from the list or from what was put on, and a row may be put on in parts.
 -- Assumes nothing.
-use Prim.Native.Nat.{ℕ, zero, suc, _+_, _<_, _≤_}
+use Prim.Native.Nat.{ℕ, suc, _+_, _<_, _≤_}
 use mathlib.Core.Path.{_≡_, refl, sym, _∙_, ap, subst}
 use mathlib.Core.Logic.{_⊎_, inl, inr, _≢_}
 use mathlib.Core.Bool.{Bool, true, false, cond, _||_, true≢false}
@@ -12,7 +12,7 @@ use lib.Seq.{take-append-seam, take-suc}
 use lib.Dec.{eqb}
 use borrow.Author.Tests.{eqb-true, eqb-false, eq-eqb, ne-eqb}
 use Rattle.model.specs.Ways.{In, listed}
-use Rattle.ways.proofs.Listed.{Distinct, listed-in, in-listed, LastOr, last-or, in-last, in-or}
+use Rattle.ways.proofs.Listed.{Distinct, listed-in, in-listed, LastOr, last-or, in-or}
 
 -- h on the list's end, unless it is 0 or there already
 unfoldable pub put-on : List ℕ → ℕ → List ℕ
@@ -103,29 +103,10 @@ put-all-length L hs = let g = put-all-grows L hs in rw (g .1) (omega (arith, len
 pub put-all-at : (L hs : List ℕ) (k : ℕ) → k < length L → getD (put-all L hs) k 0 ≡ getD L k 0
 put-all-at L hs k l = let g = put-all-grows L hs in rw (g .1) (List·getD-append L (g .0) 0 k l)
 
-pub put-all-in : (L hs : List ℕ) (h : ℕ) → In h L → In h (put-all L hs)
-put-all-in L hs h i = (i .0, omega (arith, put-all-length L hs), put-all-at L hs (i .0) (i .1) ∙ i .2)
-
-pub put-all-known : (L hs : List ℕ) (h : ℕ) → Known L h → Known (put-all L hs) h
-put-all-known L hs h (inl z) = inl z
-put-all-known L hs h (inr i) = inr (put-all-in L hs h i)
-
 -- what was put on is there, and what is there was there or was put on
-
-pub put-on-has : (L : List ℕ) (h : ℕ) → Known (put-on L h) h
-put-on-has L h = put-on-case (λ M. Known M h) L h (λ k. k) (λ _ _. inr (in-last L h))
 
 pub put-on-from : (L : List ℕ) (g h : ℕ) → In h (put-on L g) → In h L ⊎ (h ≡ g)
 put-on-from L g h = put-on-case (λ M. In h M → In h L ⊎ (h ≡ g)) L g (λ _ i. inl i) (λ _ _. in-or L g h)
-
-pub put-all-has : (L hs : List ℕ) (h : ℕ) → In h hs → Known (put-all L hs) h
-unfolding put-all
-put-all-has L hs h i = has L hs (i .0) (i .1) (i .2)
-  where
-    has : (L hs : List ℕ) (k : ℕ) → k < length hs → getD hs k 0 ≡ h → Known (put-all L hs) h
-    has L [] k l e = absurd (omega arith)
-    has L (g ∷ hs) zero l e = put-all-known (put-on L g) hs h (subst (λ (x : ℕ). Known (put-on L g) x) e (put-on-has L g))
-    has L (g ∷ hs) (suc k) l e = has (put-on L g) hs k (omega arith) e
 
 pub put-all-from : (L hs : List ℕ) (h : ℕ) → In h (put-all L hs) → In h L ⊎ In h hs
 unfolding put-all
@@ -158,11 +139,3 @@ put-all-blocks L hs b = put-all-keeps (λ M. In 0 M → ⊥) (λ M h n i. go M h
     go : (M : List ℕ) (h : ℕ) → (In 0 M → ⊥) → In 0 M ⊎ (0 ≡ h) → In 0 (put-on M h) → ⊥
     go M h n (inl i) _ = n i
     go M h n (inr e) i = n (subst (λ (N : List ℕ). In 0 N) (put-on-known M h (inl (sym e))) i)
-
-put-on-length-le : (L : List ℕ) (h : ℕ) → length (put-on L h) ≤ length L + 1
-put-on-length-le L h = put-on-case (λ M. length M ≤ length L + 1) L h (λ _. omega arith) (λ _ _. omega (arith, length-append L (h ∷ [])))
-
-pub put-all-length-le : (L hs : List ℕ) → length (put-all L hs) ≤ length L + length hs
-unfolding put-all
-put-all-length-le L [] = omega arith
-put-all-length-le L (h ∷ hs) = omega (arith, put-all-length-le (put-on L h) hs, put-on-length-le L h)

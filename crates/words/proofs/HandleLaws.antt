@@ -23,10 +23,6 @@ handle-back h p = omega arith
 pub index-small : (h : ℕ) → index-of h < 2048
 index-small h = omega arith
 
--- different blocks have different handles
-pub handle-same : (s k t j : ℕ) → k < 2048 → j < 2048 → handle s k ≡ handle t j → (s ≡ t) × (k ≡ j)
-handle-same s k t j hk hj e = (omega arith, omega arith)
-
 -- ---- blocks in the arena
 
 -- what the blocks before k and block k itself take up of an area

@@ -1,6 +1,6 @@
 -- `arena::record_of` meets its contract: the part that is cut out is the record. Assumes nothing.
 use Prim.Native.Nat.{_+_, _*_, _-_}
-use mathlib.Core.Path.{_≡_, ap, ap₂}
+use mathlib.Core.Path.{_≡_, ap₂}
 use native.Mathlib.Omega.{arith}
 use Rattle.model.specs.Word.{part}
 use Rattle.model.specs.View.{record-of}

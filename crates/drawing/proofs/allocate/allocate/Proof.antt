@@ -2,7 +2,6 @@
 use borrow.Author.Needs.{needs}
 use Rattle.taken.proofs.RowLaws.{zero-row}
 use borrow.Author.Tests.{not-true, not-false}
-use Prim.Native.Nat.{ℕ}
 use mathlib.Core.Path.{_≡_, refl, sym, _∙_}
 use mathlib.Core.Bool.{true}
 use Rattle.model.specs.Sound.{sound}

@@ -2,7 +2,6 @@
 use native.Mathlib.Omega.{arith}
 use mathlib.Core.List.{[], _∷_}
 use mathlib.Core.Path.{refl, _∙_}
-use borrow.Author.Needs.{needs}
 use Rattle.taken.proofs.RowLaws.{zero-row}
 use Rattle.model.specs.Calls.{room}
 use Rattle.drawing.proofs.LookLaws.{not-sound, is-ruled}

@@ -1,6 +1,5 @@
 -- `drawing::ask::standing` keeps its promise. Assumes nothing.
 use mathlib.Core.Path.{refl}
-use borrow.Author.Needs.{needs}
 use Rattle.taken.proofs.RowLaws.{zero-row}
 use Rattle.model.specs.Standing.{standing-of}
 use Rattle.model.specs.Numbers.{standing-values}

@@ -1,15 +1,13 @@
 -- `drawing::collect::refusal` meets its contract. Assumes nothing.
 use borrow.Author.Needs.{needs}
 use borrow.Author.Tests.{not-true, not-false}
-use Prim.Native.Nat.{ℕ, _≤_, _<_}
+use Prim.Native.Nat.{ℕ}
 use native.Mathlib.Omega.{arith}
-use mathlib.Core.Path.{_≡_, refl, sym, ap, _∙_}
-use mathlib.Core.Bool.{Bool, true, false}
+use mathlib.Core.Path.{_≡_, sym, _∙_}
+use mathlib.Core.Bool.{true}
 use mathlib.Core.List.{List}
-use lib.ListN.{length, getD}
-use Rattle.model.specs.Below.{all-below}
 use Rattle.model.specs.View.{segments}
-use Rattle.model.specs.Standing.{none-or-taken, taken-count}
+use Rattle.model.specs.Standing.{taken-count}
 use Rattle.model.specs.Sound.{sound}
 use Rattle.soundness.proofs.Facts.{Sized, sound-facts}
 use Rattle.taken.specs.Row.{TakenRow}

@@ -1,6 +1,6 @@
 -- `taken::ask::ask_rest` meets its contract. The loop's invariant: the words before p have been asked.
 -- Assumes nothing.
-use Prim.Native.Nat.{_+_, _-_, _≤_}
+use Prim.Native.Nat.{_-_, _≤_}
 use native.Mathlib.Omega.{arith}
 use mathlib.Core.Path.{_≡_}
 use lib.ListN.{length}

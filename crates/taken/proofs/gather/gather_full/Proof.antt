@@ -1,11 +1,10 @@
 -- `taken::gather::gather_full` meets its contract: blocks of class 3 have 2 words, those of class 4 have 4.
 -- Assumes nothing.
-use Prim.Native.Nat.{_+_, _*_, _≤_, _<_}
+use Prim.Native.Nat.{_+_, _*_, _≤_}
 use native.Mathlib.Omega.{arith}
 use mathlib.Core.Path.{_≡_, ap, _∙_, sym}
 use lib.ListN.{length}
-use borrow.Author.Needs.{needs}
-use Rattle.model.specs.Class.{blocks, block-words}
+use Rattle.model.specs.Class.{block-words}
 use Rattle.model.specs.Layout.{block-at}
 use Rattle.laws.proofs.Splice.{length-part}
 use Rattle.words.proofs.ClassLaws.{blocks-most}

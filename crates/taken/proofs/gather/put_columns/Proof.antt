@@ -1,6 +1,6 @@
 -- `taken::gather::put_columns` meets its contract. The loop's invariant: the references of the first k blocks are put, and their wrong headers counted.
 -- Assumes nothing.
-use Prim.Native.Nat.{ℕ, _+_, _-_, _≤_, _<_}
+use Prim.Native.Nat.{_-_, _≤_}
 use native.Mathlib.Omega.{arith}
 use mathlib.Core.Path.{_≡_, ap, _∙_}
 use lib.ListN.{length}

@@ -1,7 +1,7 @@
 -- `taken::gather::words_from` meets its contract. Assumes nothing.
-use Prim.Native.Nat.{ℕ, _+_, _-_}
+use Prim.Native.Nat.{_+_, _-_}
 use native.Mathlib.Omega.{arith}
-use mathlib.Core.Path.{_≡_, ap₂, _∙_}
+use mathlib.Core.Path.{_≡_, ap₂}
 use borrow.Author.Needs.{needs}
 use Rattle.model.specs.Word.{part}
 use Rattle.taken.proofs.gather.words_from.Statement.{statement}

@@ -13,7 +13,7 @@ use Rattle.model.specs.Class.{is-class, blocks}
 use Rattle.model.specs.View.{class}
 use Rattle.model.specs.Standing.{in-pool}
 use Rattle.words.proofs.ClassLaws.{class-bounds, blocks-most}
-use Rattle.taken.specs.Row.{Member, taken-word}
+use Rattle.taken.specs.Row.{taken-word}
 use Rattle.taken.proofs.RowLaws.{record-long, filled-pool, member-word, filled-step}
 use Rattle.taken.proofs.row.fill_segment.Statement.{statement}
 use Rattle.taken.proofs.row.fill_segment.Tie as tie

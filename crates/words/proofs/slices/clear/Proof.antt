@@ -5,7 +5,7 @@ use mathlib.Core.List.{_++_, append-nil}
 use native.Mathlib.Omega.{arith}
 use lib.Seq.{drop-length}
 use lib.ListN.{length, drop, replicate}
-use borrow.Author.Fill.{fill-none, fill-more}
+use borrow.Author.Fill.{fill-more}
 use borrow.Author.Needs.{needs}
 use Rattle.words.proofs.slices.clear.Statement.{statement}
 use Rattle.words.proofs.slices.clear.Tie as tie
