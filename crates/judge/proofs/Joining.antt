@@ -5,25 +5,17 @@ use mathlib.Core.Bool.{Bool, true, false, _&&_}
 use mathlib.Core.List.{List}
 use Rattle.model.specs.Sound.{sound, sized, unnamed-zero, classes, ranks, levels, counts, behind, places, taken-right}
 use Rattle.records.specs.Judged.{records-sound}
-use Rattle.records.proofs.RecordsLaws.{sound-is}
+use Rattle.records.proofs.RecordsLaws.{sound-is, classed-facts}
 use Rattle.soundness.proofs.Tests.{and-left, and-right}
-use Rattle.soundness.proofs.Facts.{sized-facts, classes-facts}
-use Rattle.taken.specs.Row.{Classed}
+use Rattle.arena.specs.Inside.{Classed}
 
 -- records that are right have the length and the classes that the taken row asks
 pub classed : (ws : List ℕ) → records-sound ws ≡ true → Classed ws
 unfolding records-sound
 classed ws right =
     let after-classes = ranks ws && (levels ws && (counts ws && (behind ws && places ws))) in
-    let z = sized-facts ws (and-left (sized ws) (unnamed-zero ws && (classes ws && after-classes)) right) in
     let rest = and-right (unnamed-zero ws) (classes ws && after-classes) (and-right (sized ws) (unnamed-zero ws && (classes ws && after-classes)) right) in
-    let k = classes-facts ws z (and-left (classes ws) after-classes rest) in
-    record {
-      some = z .some;
-      few = z .few;
-      long = z .long;
-      classed = λ s below used. k .classed s (record { below = below; used = used });
-    }
+    classed-facts (and-left (sized ws) (unnamed-zero ws && (classes ws && after-classes)) right) (and-left (classes ws) after-classes rest)
 
 pub refused : (ws : List ℕ) (right : Bool) → right ≡ records-sound ws → right ≡ false → false ≡ sound ws
 refused ws right e no-right = sym (sound-is ws ∙ ap (λ (t : Bool). t && taken-right ws) (sym e ∙ no-right))

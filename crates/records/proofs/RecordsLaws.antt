@@ -17,8 +17,8 @@ use Rattle.model.specs.Standing.{in-pool}
 use Rattle.model.specs.Sound.{every-segment, sized, classes, taken-right, sound}
 use Rattle.bitmap.specs.Tree.{OfClass}
 use Rattle.soundness.proofs.Facts as Facts
-use Rattle.arena.specs.Inside.{Segment}
-use Rattle.records.specs.Judged.{Sized, Classed, Member, segment-classed, records-sound}
+use Rattle.arena.specs.Inside.{Segment, Classed}
+use Rattle.records.specs.Judged.{Sized, Member, segment-classed, records-sound}
 
 -- ---- records and classes
 

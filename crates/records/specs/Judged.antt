@@ -23,13 +23,6 @@ pub record Sized (ws : List ℕ) : Type 0 where
   pub few : segments ws ≤ 64
   pub long : length ws ≡ arena-length (segments ws)
 
--- and each segment has a class or is in the pool
-pub record Classed (ws : List ℕ) : Type 0 where
-  pub some : 1 ≤ segments ws
-  pub few : segments ws ≤ 64
-  pub long : length ws ≡ arena-length (segments ws)
-  pub classed : (s : ℕ) → s < segments ws → in-pool ws s ≡ false → is-class (class ws s) ≡ true
-
 -- the same of one segment
 pub record Member (ws : List ℕ) (s : ℕ) : Type 0 where
   pub few : segments ws ≤ 64

@@ -13,7 +13,8 @@ use Rattle.model.specs.Layout.{block-at}
 use Rattle.model.specs.View.{segments, class, block-of, n-in, r-in}
 use Rattle.model.specs.Standing.{in-pool, taken-at}
 use Rattle.model.specs.Sound.{block-right}
-use Rattle.taken.specs.Row.{Classed, Member, TakenRow}
+use Rattle.arena.specs.Inside.{Classed}
+use Rattle.taken.specs.Row.{Member, TakenRow}
 
 -- a header of class i: "n whose class is the segment's, r not above n"
 unfoldable pub header-right : ℕ → List ℕ → Bool

@@ -3,16 +3,16 @@
 use Prim.Native.Nat.{ℕ, _+_, _*_, _/_, _%_, _≤_, _<_}
 use mathlib.Core.Path.{_≡_}
 use mathlib.Core.Logic.{_⊎_}
-use mathlib.Core.Bool.{Bool, true, false, not, _&&_, _||_}
+use mathlib.Core.Bool.{Bool, not, _&&_, _||_}
 use mathlib.Core.List.{List}
 use lib.ListN.{length, getD}
 use lib.Dec.{eqb, ltb}
 use Rattle.model.specs.Below.{all-below}
 use Rattle.model.specs.Word.{word, bit, word-of-bits}
-use Rattle.model.specs.Class.{is-class, blocks}
+use Rattle.model.specs.Class.{blocks}
 use Rattle.model.specs.Layout.{arena-length}
 use Rattle.model.specs.View.{segments, class}
-use Rattle.model.specs.Standing.{in-pool, before-place, taken-at, none-or-taken}
+use Rattle.model.specs.Standing.{before-place, taken-at, none-or-taken}
 
 -- the bit that is asked for handle h. A handle from 262,113 on has none in the row, and asks one of word 0.
 abbrev pub asked-bit : List ℕ → ℕ → Bool
@@ -44,14 +44,7 @@ AskedAll row words p all over all' over' = AskedBelow row words p all over → A
 
 -- ---- what is asked
 
--- an arena of the right length, in which each segment that is not in the pool has a class
-pub record Classed (ws : List ℕ) : Type 0 where
-  pub some : 1 ≤ segments ws
-  pub few : segments ws ≤ 64
-  pub long : length ws ≡ arena-length (segments ws)
-  pub classed : (s : ℕ) → s < segments ws → in-pool ws s ≡ false → is-class (class ws s) ≡ true
-
--- segment s of such an arena, of class i
+-- segment s of an arena of the right length, of class i
 pub record Member (ws : List ℕ) (s i : ℕ) : Type 0 where
   pub few : segments ws ≤ 64
   pub long : length ws ≡ arena-length (segments ws)

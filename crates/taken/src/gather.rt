@@ -2,18 +2,15 @@
 //
 // The taken blocks of a segment are found by the set bits of the row's words. The header of each is tested, and
 // its references are put end to end into a row, of which a segment needs less than 4,096 words: a block has room
-// for its header besides. Where all 32 blocks of a word are taken and small, they are gathered field by field: a
-// block that has no such reference gives 0, which is right as a reference.
+// for its header besides. Where all 32 blocks of a word are taken and small, they are gathered together (beside).
 ghost use mathlib.Core.Path.{_≡_};
-ghost use mathlib.Core.Bool.{not};
-ghost use Prim.Native.Nat.{_+_, _-_, _*_, _<_, _≤_};
+ghost use Prim.Native.Nat.{_+_, _*_, _<_};
 ghost use lib.ListN.{length};
-ghost use Rattle.model.specs.Below.{one-if};
 ghost use Rattle.model.specs.Word.{part};
 ghost use Rattle.model.specs.Class.{blocks};
 ghost use Rattle.model.specs.Layout.{block-at};
 ghost use Rattle.taken.specs.Gather.{header-right, Copying, Copied, Putting, Adding, Added, GatheredBelow, AtBlock, AtWord, AtFull, From, AtSegment};
-ghost use Rattle.taken.specs.Beside.{Beside, beside, reference-or-none, Fields, FieldsPut, InColumns, AddingBeside, AddedBeside};
+use crate::beside::gather_beside;
 use arena::block_of;
 use model::BlockIndex;
 use words::class::blocks;
@@ -101,78 +98,6 @@ fn gather_block(arena: &[u32], of: Member, k: u32, refs: &mut [u32; 4096], m: us
 {
     let block = block_of(arena, of.n, of.s, of.class, BlockIndex(k));
     add_block(block, of.class, refs, m)
-}
-
-// 1 for a wrong header, 0 for a right one.
-fn is_wrong(block: &[u32], class: u32) -> u32
-    requires { ⌜ 0 < length (now block) ⌝ }
-    ensures { λ r. ⌜ (r ≡ one-if (not (header-right class (now (block .entry))))) × (r ≤ 1) ⌝ }
-{
-    (!header_right(block, class)) as u32
-}
-
-// Reference f of a block, and 0 if it has none.
-fn reference_or_none(block: &[u32], f: usize) -> u32
-    requires { ⌜ 1 + f < length (now block) ⌝ }
-    ensures { λ r. ⌜ r ≡ reference-or-none (now (block .entry)) f ⌝ }
-{
-    let v = block[1 + f];
-    if f < wide(header_r(block[0])) { v } else { 0 }
-}
-
-// Block k of 32 that stand side by side.
-fn block_beside(words: &[u32], size: usize, k: usize) -> &[u32]
-    requires { ⌜ Beside (now words) size × (k < 32) ⌝ }
-    ensures { λ r. ⌜ now r ≡ beside (now (words .entry)) size k ⌝ }
-{
-    let from = size * k;
-    let end = from + size;
-    &words[from..end]
-}
-
-// Puts the references of block k of 32, each at place k of its field's 32 words, from word m on.
-fn put_fields(block: &[u32], size: usize, k: usize, refs: &mut [u32; 4096], m: usize)
-    requires { ⌜ Fields (now block) size k (now refs) m ⌝ }
-    ensures { λ _. ⌜ FieldsPut (now (block .entry)) k (now (refs .entry)) m (size - 1) (now (refs .exit)) ⌝ }
-{
-    let mut f: usize = 0;
-    while f + 1 < size {
-        refs[m + 32 * f + k] = reference_or_none(block, f);
-        f += 1;
-    }
-}
-
-// The same of all of them. Gives how many headers are wrong.
-fn put_columns(words: &[u32], size: usize, class: u32, refs: &mut [u32; 4096], m: usize) -> u32
-    requires { ⌜ AddingBeside class (now words) size (now refs) m ⌝ }
-    ensures { λ r. ⌜ InColumns class (now (words .entry)) size (now (refs .entry)) m 32 (now (refs .exit)) r ⌝ }
-{
-    let mut wrong: u32 = 0;
-    let mut k: usize = 0;
-    while k < 32 {
-        let block = block_beside(words, size, k);
-        put_fields(block, size, k, refs, m);
-        wrong += is_wrong(block, class);
-        k += 1;
-    }
-    wrong
-}
-
-fn gather_beside(
-    words: &[u32],
-    size: usize,
-    class: u32,
-    refs: &mut [u32; 4096],
-    m: usize,
-) -> Gathered
-    requires { ⌜ AddingBeside class (now words) size (now refs) m ⌝ }
-    ensures { λ g. ⌜ AddedBeside class (now (words .entry)) size (now (refs .entry)) m (now (refs .exit)) (g .right) (g .count) ⌝ }
-{
-    let wrong = put_columns(words, size, class, refs, m);
-    Gathered {
-        right: wrong == 0,
-        count: m + 32 * (size - 1),
-    }
 }
 
 // So many words of the arena, from block k on.

@@ -4,7 +4,8 @@ use mathlib.Core.Path.{_≡_}
 use mathlib.Core.Bool.{Bool, _&&_}
 use borrow.Author.Needs.{needs}
 use Rattle.model.specs.Sound.{sized, unnamed-zero, classes, ranks, levels, counts, behind, places}
-use Rattle.records.specs.Judged.{Sized, Classed, records-sound}
+use Rattle.arena.specs.Inside.{Classed}
+use Rattle.records.specs.Judged.{Sized, records-sound}
 use Rattle.records.proofs.LoopLaws.{passed, stops, goes-on}
 use Rattle.records.proofs.RecordsLaws.{sized-facts, classed-facts}
 use Rattle.records.proofs.records_right.Statement.{statement}

@@ -1,4 +1,4 @@
--- `taken::gather::block_beside` meets its contract. Assumes nothing.
+-- `taken::beside::block_beside` meets its contract. Assumes nothing.
 use Prim.Native.Nat.{_+_, _-_, _*_, _≤_}
 use native.Mathlib.Omega.{arith}
 use mathlib.Core.Path.{_≡_, ap}
@@ -6,8 +6,8 @@ use lib.ListN.{length}
 use borrow.Author.Needs.{needs}
 use Rattle.model.specs.Word.{part}
 use Rattle.taken.proofs.BesideLaws.{within}
-use Rattle.taken.proofs.gather.block_beside.Statement.{statement}
-use Rattle.taken.proofs.gather.block_beside.Tie as tie
+use Rattle.taken.proofs.beside.block_beside.Statement.{statement}
+use Rattle.taken.proofs.beside.block_beside.Tie as tie
 
 ends : (c : tie.Start) → c .args .size * c .args .k + c .args .size ≤ length (c .args .words .now)
 ends c = omega (arith, within (c .pre .0) (c .args .k) (c .pre .1), c .pre .0 .long)

@@ -1,4 +1,4 @@
--- `taken::gather::put_fields` meets its contract. The loop's invariant: the first f references are put.
+-- `taken::beside::put_fields` meets its contract. The loop's invariant: the first f references are put.
 -- Assumes nothing.
 use Prim.Native.Nat.{_+_, _-_, _≤_}
 use native.Mathlib.Omega.{arith}
@@ -6,8 +6,8 @@ use mathlib.Core.Path.{_≡_}
 use borrow.Author.Needs.{needs}
 use Rattle.taken.specs.Beside.{FieldsPut}
 use Rattle.taken.proofs.BesideLaws.{fields-none, fields-step}
-use Rattle.taken.proofs.gather.put_fields.Statement.{statement}
-use Rattle.taken.proofs.gather.put_fields.Tie as tie
+use Rattle.taken.proofs.beside.put_fields.Statement.{statement}
+use Rattle.taken.proofs.beside.put_fields.Tie as tie
 
 abbrev Inv-loop : tie.InvT-loop
 Inv-loop block size k refs₀ m f₀ refs f = (f + 1 ≤ size) × FieldsPut block k refs₀ m f refs

@@ -1,4 +1,4 @@
--- `taken::gather::reference_or_none` meets its contract. Assumes nothing.
+-- `taken::beside::reference_or_none` meets its contract. Assumes nothing.
 use native.Mathlib.Omega.{arith}
 use mathlib.Core.Path.{sym, ap}
 use mathlib.Core.Bool.{Bool, cond}
@@ -6,8 +6,8 @@ use borrow.Author.Needs.{needs}
 use borrow.Author.Tests.{lt-ltb, le-ltb}
 use Rattle.model.specs.View.{r-in, reference-in}
 use Rattle.taken.specs.Beside.{reference-or-none}
-use Rattle.taken.proofs.gather.reference_or_none.Statement.{statement}
-use Rattle.taken.proofs.gather.reference_or_none.Tie as tie
+use Rattle.taken.proofs.beside.reference_or_none.Statement.{statement}
+use Rattle.taken.proofs.beside.reference_or_none.Tie as tie
 
 add-v : tie.Need-add-v
 add-v c = search needs

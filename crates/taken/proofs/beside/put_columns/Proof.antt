@@ -1,4 +1,4 @@
--- `taken::gather::put_columns` meets its contract. The loop's invariant: the references of the first k blocks are put, and their wrong headers counted.
+-- `taken::beside::put_columns` meets its contract. The loop's invariant: the references of the first k blocks are put, and their wrong headers counted.
 -- Assumes nothing.
 use Prim.Native.Nat.{_-_, _≤_}
 use native.Mathlib.Omega.{arith}
@@ -7,8 +7,8 @@ use lib.ListN.{length}
 use borrow.Author.Needs.{needs}
 use Rattle.taken.specs.Beside.{InColumns}
 use Rattle.taken.proofs.BesideLaws.{beside-long, columns-none, columns-step}
-use Rattle.taken.proofs.gather.put_columns.Statement.{statement}
-use Rattle.taken.proofs.gather.put_columns.Tie as tie
+use Rattle.taken.proofs.beside.put_columns.Statement.{statement}
+use Rattle.taken.proofs.beside.put_columns.Tie as tie
 
 abbrev Inv-loop : tie.InvT-loop
 Inv-loop words size class refs₀ m wrong₀ k₀ refs wrong k = (k ≤ 32) × (wrong ≤ k) × InColumns class words size refs₀ m k refs wrong

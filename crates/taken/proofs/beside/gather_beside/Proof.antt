@@ -1,8 +1,8 @@
--- `taken::gather::gather_beside` meets its contract. Assumes nothing.
+-- `taken::beside::gather_beside` meets its contract. Assumes nothing.
 use borrow.Author.Needs.{needs}
 use Rattle.taken.proofs.BesideLaws.{added-beside}
-use Rattle.taken.proofs.gather.gather_beside.Statement.{statement}
-use Rattle.taken.proofs.gather.gather_beside.Tie as tie
+use Rattle.taken.proofs.beside.gather_beside.Statement.{statement}
+use Rattle.taken.proofs.beside.gather_beside.Tie as tie
 
 put-columns-requires : tie.Need-put-columns-requires
 put-columns-requires c κs = search needs

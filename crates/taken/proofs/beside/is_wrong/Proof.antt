@@ -1,4 +1,4 @@
--- `taken::gather::is_wrong` meets its contract. Assumes nothing.
+-- `taken::beside::is_wrong` meets its contract. Assumes nothing.
 use Prim.Native.Nat.{_≤_}
 use native.Mathlib.Omega.{arith}
 use mathlib.Core.Path.{_≡_, refl, ap, _∙_}
@@ -6,8 +6,8 @@ use mathlib.Core.Bool.{Bool, true, false, not}
 use mir.Val.{boolByte}
 use borrow.Author.Needs.{needs}
 use Rattle.model.specs.Below.{one-if}
-use Rattle.taken.proofs.gather.is_wrong.Statement.{statement}
-use Rattle.taken.proofs.gather.is_wrong.Tie as tie
+use Rattle.taken.proofs.beside.is_wrong.Statement.{statement}
+use Rattle.taken.proofs.beside.is_wrong.Tie as tie
 
 byte : (t : Bool) → boolByte (not t) ≡ one-if (not t)
 byte true = refl
