@@ -7,7 +7,7 @@
 ghost use Rattle.taken.specs.Row.{ZeroRow};
 ghost use Rattle.judge.specs.Judged.{Judged};
 use records::records_right;
-use taken::judge::taken_right;
+use references::judge::taken_right;
 use taken::row::fill_row;
 
 pub fn judge(arena: &[u32], row: &mut [u32; 8192]) -> bool

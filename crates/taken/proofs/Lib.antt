@@ -1,4 +1,1 @@
 pub mod RowLaws
-pub mod GatherLaws
-pub mod JudgeLaws
-pub mod BesideLaws

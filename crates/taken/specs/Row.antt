@@ -13,6 +13,7 @@ use Rattle.model.specs.Class.{blocks}
 use Rattle.model.specs.Layout.{arena-length}
 use Rattle.model.specs.View.{segments, class}
 use Rattle.model.specs.Standing.{before-place, taken-at, none-or-taken}
+use Rattle.arena.specs.Inside.{Classed}
 
 -- the bit that is asked for handle h. A handle from 262,113 on has none in the row, and asks one of word 0.
 abbrev pub asked-bit : List ℕ → ℕ → Bool

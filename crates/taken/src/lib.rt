@@ -1,4 +1,4 @@
-// Which blocks are taken, as one row of bits, and the judge of their headers and references.
+// Which blocks are taken, as one row of bits.
 //
 // The taken row has a bit for each handle (crate arena, Rows): that of handle 0 is set, and that of any other exactly
 // if its block is taken. 64 words for each segment line up with the level-0 words of the segment's record. Whoever
@@ -6,7 +6,4 @@
 // count of ones, but for that of handle 0.
 
 pub mod ask;
-mod beside;
-pub mod gather;
-pub mod judge;
 pub mod row;
