@@ -28,7 +28,7 @@ use Rattle.words.proofs.ClassLaws.{class-bounds, class-high, class-room, block-
 use Rattle.arena.specs.Inside.{Segment, Block}
 use Rattle.soundness.proofs.Tests.{and-left, and-right}
 use Rattle.soundness.proofs.Facts.{sound-facts, taken-block, block-length}
-use Rattle.trace.specs.Gather.{Masked, Behind, references-of, references-of-all}
+use Rattle.trace.specs.Gather.{Masked, Behind, First, references-of, references-of-all}
 
 -- ---- a copy
 
@@ -62,10 +62,6 @@ copied block row end r row' h l e =
     }
 
 -- ---- the first references, one by one
-
--- of the block's references the first r, for any r up to n, stand in the row
-abbrev pub First : List ℕ → List ℕ → ℕ → ℕ → List ℕ → Type 0
-First block row end n row' = (r : ℕ) → r ≤ n → r < length block → Behind (words-below r (reference-in block)) row end (end + r) row'
 
 pub first-none : (block row : List ℕ) (end : ℕ) → First block row end 0 row
 unfolding lists-below

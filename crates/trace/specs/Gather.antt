@@ -30,9 +30,9 @@ pub record Behind (references row : List ℕ) (end end' : ℕ) (row' : List ℕ)
   pub count : end' ≡ end + length references
   pub words : take end' row' ≡ take end row ++ references
 
--- a block's first r references do, for any r up to eight
-abbrev pub FirstEight : List ℕ → List ℕ → ℕ → List ℕ → Type 0
-FirstEight block row end row' = (r : ℕ) → r ≤ 8 → r < length block → Behind (words-below r (reference-in block)) row end (end + r) row'
+-- of a block's references the first r do, for any r up to n
+abbrev pub First : List ℕ → List ℕ → ℕ → ℕ → List ℕ → Type 0
+First block row end n row' = (r : ℕ) → r ≤ n → r < length block → Behind (words-below r (reference-in block)) row end (end + r) row'
 
 -- the references of the block of a handle, in turn
 abbrev pub references-of : List ℕ → ℕ → List ℕ

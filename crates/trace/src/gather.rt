@@ -5,7 +5,7 @@ ghost use lib.ListN.{length};
 ghost use Rattle.model.specs.Word.{put};
 ghost use Rattle.model.specs.Below.{words-below};
 ghost use Rattle.model.specs.View.{r-in, reference-in};
-ghost use Rattle.trace.specs.Gather.{references-of, Masked, Taken, Room, Behind, FirstEight, Queued, Gathered};
+ghost use Rattle.trace.specs.Gather.{references-of, Masked, Taken, Room, Behind, First, Queued, Gathered};
 use arena::block_of;
 use arena::class;
 use model::Handle;
@@ -36,28 +36,32 @@ fn reference(block: &[u32], f: usize) -> u32
     block[(1 + f) & mask]
 }
 
-// Copies a block's first eight references behind the first `end` words of a row, and where it has fewer,
-// something else behind them.
-fn eight(block: &[u32], row: &mut [u32], end: usize)
-    requires { ⌜ Masked (now block) × (end + 8 ≤ length (now row)) ⌝ }
-    ensures { λ _. ⌜ FirstEight (now (block .entry)) (now (row .entry)) end (now (row .exit)) ⌝ }
+// Copies a block's first n references behind the first `end` words of a row, and where it has fewer, something
+// else behind them.
+fn first(block: &[u32], row: &mut [u32], end: usize, n: usize)
+    requires { ⌜ Masked (now block) × (n ≤ 8) × (end + n ≤ length (now row)) ⌝ }
+    ensures { λ _. ⌜ First (now (block .entry)) (now (row .entry)) end n (now (row .exit)) ⌝ }
 {
     let mut f: usize = 0;
-    while f < 8 {
+    while f < n {
         row[end + f] = reference(block, f);
         f += 1;
     }
 }
 
 // Copies a block's references behind the first `end` words of a row, and says where they end. Most blocks
-// have few: for them eight at once spare a loop whose length cannot be foretold.
+// have few: for them four or eight at once spare a loop whose length cannot be foretold.
 fn references(block: &[u32], row: &mut [u32], end: usize) -> usize
     requires { ⌜ Room (now block) (now row) end ⌝ }
     ensures { λ r. ⌜ Behind (words-below (r-in (now (block .entry))) (reference-in (now (block .entry)))) (now (row .entry)) end r (now (row .exit)) ⌝ }
 {
     let r = wide(header_r(block[0]));
+    if r <= 4 {
+        first(block, row, end, 4);
+        return end + r;
+    }
     if r <= 8 {
-        eight(block, row, end);
+        first(block, row, end, 8);
         return end + r;
     }
     let last = 1 + r;

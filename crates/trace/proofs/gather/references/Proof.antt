@@ -1,4 +1,4 @@
--- `trace::gather::references` meets its contract: eight words hold all references of a block that has no more, and else each is copied.
+-- `trace::gather::references` meets its contract: four or eight words hold all references of a block that has no more, and else each is copied.
 -- Assumes nothing.
 use mathlib.Core.Path.{_≡_, _∙_}
 use native.Mathlib.Omega.{arith}
@@ -17,8 +17,8 @@ header-r-requires c κs = search needs
 wide-requires : tie.Need-wide-requires
 wide-requires c κs = search needs
 
-eight-requires : tie.Need-eight-requires
-eight-requires c κs = search needs
+first-requires : tie.Need-first-requires
+first-requires c κs = search needs
 
 add-result : tie.Need-add-result
 add-result c = search needs
@@ -31,7 +31,23 @@ returns c =
     let a = c .before .before .before .before .before .before .before .before .before .before .args in
     let r = c .before .before .before .before .before .wide .result in
     let is-r : r ≡ r-in (a .block .now) = c .before .before .before .before .before .wide .ensures ∙ c .before .before .before .before .before .before .header-r .ensures in
-    all-references (a .block .now) (a .row .now) (a .end) r (c .before .before .eight .last .1 .0) is-r (c .before .before .eight .ensures r (omega arith) (omega arith))
+    all-references (a .block .now) (a .row .now) (a .end) r (c .before .before .first .last .1 .0) is-r (c .before .before .first .ensures r (omega arith) (omega arith))
+
+first-requires-2 : tie.Need-first-requires-2
+first-requires-2 c κs = search needs
+
+add-result-2 : tie.Need-add-result-2
+add-result-2 c = search needs
+
+same-length-2 : tie.Need-same-length-2
+same-length-2 c = search needs
+
+returns-2 : tie.Need-returns-2
+returns-2 c =
+    let a = c .before .before .before .before .before .before .before .before .before .before .before .args in
+    let r = c .before .before .before .before .before .before .wide .result in
+    let is-r : r ≡ r-in (a .block .now) = c .before .before .before .before .before .before .wide .ensures ∙ c .before .before .before .before .before .before .before .header-r .ensures in
+    all-references (a .block .now) (a .row .now) (a .end) r (c .before .before .first2 .last .1 .0) is-r (c .before .before .first2 .ensures r (omega arith) (omega arith))
 
 add-last : tie.Need-add-last
 add-last c = search needs
@@ -48,17 +64,17 @@ part-copy-end c = search needs
 copy-requires : tie.Need-copy-requires
 copy-requires c κs = search needs
 
-add-result-2 : tie.Need-add-result-2
-add-result-2 c = search needs
+add-result-3 : tie.Need-add-result-3
+add-result-3 c = search needs
 
-same-length-2 : tie.Need-same-length-2
-same-length-2 c = search needs
+same-length-3 : tie.Need-same-length-3
+same-length-3 c = search needs
 
-returns-2 : tie.Need-returns-2
-returns-2 c =
-    let a = c .before .before .before .before .before .before .before .before .before .before .before .args in
-    let r = c .before .before .before .before .before .before .wide .result in
-    let is-r : r ≡ r-in (a .block .now) = c .before .before .before .before .before .before .wide .ensures ∙ c .before .before .before .before .before .before .before .header-r .ensures in
+returns-3 : tie.Need-returns-3
+returns-3 c =
+    let a = c .before .before .before .before .before .before .before .before .before .before .before .before .args in
+    let r = c .before .before .before .before .before .before .before .wide .result in
+    let is-r : r ≡ r-in (a .block .now) = c .before .before .before .before .before .before .before .wide .ensures ∙ c .before .before .before .before .before .before .before .before .header-r .ensures in
     all-references (a .block .now) (a .row .now) (a .end) r (c .before .before .copy .last .1 .0) is-r
     (copied (a .block .now) (a .row .now) (a .end) r (c .before .before .copy .last .1 .0) (omega arith) (omega arith) (c .before .before .copy .ensures))
 
@@ -69,15 +85,19 @@ references-spec =
     shared-slice-read-header-r
     header-r-requires
     wide-requires
-    eight-requires
+    first-requires
     add-result
     same-length
     returns
+    first-requires-2
+    add-result-2
+    same-length-2
+    returns-2
     add-last
     sub-copy
     part-copy-start
     part-copy-end
     copy-requires
-    add-result-2
-    same-length-2
-    returns-2)
+    add-result-3
+    same-length-3
+    returns-3)

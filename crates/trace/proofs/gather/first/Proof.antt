@@ -1,19 +1,20 @@
--- `trace::gather::eight` meets its contract. The loop's invariant: the first f references, if there are as many, have been copied.
+-- `trace::gather::first` meets its contract. The loop's invariant: the first f references, if there are as many, have been copied.
 -- Assumes nothing.
 use Prim.Native.Nat.{_-_, _≤_}
 use mathlib.Core.Path.{_≡_, refl}
 use native.Mathlib.Omega.{arith}
 use lib.ListN.{length, length-set}
 use borrow.Author.Needs.{needs}
-use Rattle.trace.proofs.GatherLaws.{First, first-none, first-more}
-use Rattle.trace.proofs.gather.eight.Statement.{statement}
-use Rattle.trace.proofs.gather.eight.Tie as tie
+use Rattle.trace.specs.Gather.{First}
+use Rattle.trace.proofs.GatherLaws.{first-none, first-more}
+use Rattle.trace.proofs.gather.first.Statement.{statement}
+use Rattle.trace.proofs.gather.first.Tie as tie
 
 abbrev Inv-loop : tie.InvT-loop
-Inv-loop block row₀ end f₀ row f = (f ≤ 8) × (length row ≡ length row₀) × First block row₀ end f row
+Inv-loop block row₀ end n f₀ row f = (f ≤ n) × (length row ≡ length row₀) × First block row₀ end f row
 
 abbrev μ-loop : tie.MeasureT-loop
-μ-loop block row₀ end f₀ row f = 8 - f
+μ-loop block row₀ end n f₀ row f = n - f
 
 loop-holds : tie.Need-loop-holds Inv-loop μ-loop
 loop-holds c =
@@ -52,8 +53,8 @@ same-length c = search needs
 returns : tie.Need-returns Inv-loop μ-loop
 returns c = λ r l u. c .before .loop .inv .2 r (omega arith) u
 
-pub eight-spec : {M : Type 1} → statement M
-eight-spec =
+pub first-spec : {M : Type 1} → statement M
+first-spec =
     tie.close
     (tie.spec
     Inv-loop
