@@ -70,13 +70,6 @@ fn ask_four(row: &[u32; 8192], words: &[u32], p: usize, before: Seen) -> Seen
     ask_two(row, words, p + 2, ask_two(row, words, p, before))
 }
 
-fn ask_eight(row: &[u32; 8192], words: &[u32], p: usize, before: Seen) -> Seen
-    requires { ⌜ p + 8 ≤ length (now words) ⌝ }
-    ensures { λ r. ⌜ AskedMore (now (row .entry)) (now (words .entry)) p 8 (before .all) (before .over) (r .all) (r .over) ⌝ }
-{
-    ask_four(row, words, p + 4, ask_four(row, words, p, before))
-}
-
 // Those from word `from` on.
 fn ask_rest(row: &[u32; 8192], words: &[u32], from: usize, before: Seen) -> Seen
     requires { ⌜ from ≤ length (now words) ⌝ }
@@ -91,15 +84,15 @@ fn ask_rest(row: &[u32; 8192], words: &[u32], from: usize, before: Seen) -> Seen
     seen
 }
 
-// All words, eight at a time while there are as many.
+// All words, four at a time while there are as many.
 fn ask_all(row: &[u32; 8192], words: &[u32]) -> Seen
     ensures { λ r. ⌜ AskedBelow (now (row .entry)) (now (words .entry)) (length (now (words .entry))) (r .all) (r .over) ⌝ }
 {
     let mut seen = Seen { all: 1, over: 0 };
     let mut p = 0;
-    while 8 <= words.len() - p {
-        seen = ask_eight(row, words, p, seen);
-        p += 8;
+    while 4 <= words.len() - p {
+        seen = ask_four(row, words, p, seen);
+        p += 4;
     }
     ask_rest(row, words, p, seen)
 }

@@ -21,8 +21,8 @@ loop-holds c = (omega arith, asked-no-word _ _)
 sub-loop : tie.Need-sub-loop Inv-loop μ-loop
 sub-loop c = search needs
 
-ask-eight-requires : tie.Need-ask-eight-requires Inv-loop μ-loop
-ask-eight-requires c κs = search needs
+ask-four-requires : tie.Need-ask-four-requires Inv-loop μ-loop
+ask-four-requires c κs = search needs
 
 add-p : tie.Need-add-p Inv-loop μ-loop
 add-p c = search needs
@@ -33,7 +33,7 @@ loop-less c = search needs
 loop-again : tie.Need-loop-again Inv-loop μ-loop
 loop-again c =
     let loop = c .before .before .loop in
-    (search needs, c .ask-eight .ensures (loop .inv .1))
+    (search needs, c .ask-four .ensures (loop .inv .1))
 
 ask-rest-requires : tie.Need-ask-rest-requires Inv-loop μ-loop
 ask-rest-requires c κs = search needs
@@ -49,7 +49,7 @@ ask-all-spec =
     μ-loop
     loop-holds
     sub-loop
-    ask-eight-requires
+    ask-four-requires
     add-p
     loop-less
     loop-again
