@@ -6,6 +6,8 @@
 // first free one of the segment behind it, which is not full; and where there is no segment behind it, the
 // lowest-numbered pool segment joins. proofs/FirstLaws says so of every sound arena.
 
+#![tactic(auto)]
+
 pub mod find;
 pub mod give;
 pub mod pool;

@@ -2,6 +2,8 @@
 //
 // A record and a block are handed on as their own words, cut from the middle of the arena. What a function
 // asks is that the arena has the length that its number of segments wants, and that there is such a segment.
+#![tactic(auto)]
+
 ghost use Rattle.std.specs.Prelude.{◌≡◌, true, ◌<◌, ◌≤◌, length};
 ghost use Rattle.model.specs.Word.{word, part};
 ghost use Rattle.model.specs.Class.{is_class, block_words};

@@ -1,4 +1,6 @@
 // The hand program: an arena of two segments, a work list, and what a person types (crate typed).
+#![tactic(auto)]
+
 fn main() {
     let mut arena = [0u32; 8339];
     let mut list = [0u32; 4096];

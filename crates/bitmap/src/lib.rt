@@ -8,6 +8,8 @@
 // Shown here of each operation: the record afterwards, word by word, and the answer, against the levels of
 // document 01 as crate model states them.
 
+#![tactic(auto)]
+
 pub mod climb;
 pub mod count;
 pub mod fresh;

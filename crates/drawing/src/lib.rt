@@ -9,6 +9,8 @@
 // (handles of a judged arena), fields (a block's own words), put (one word changed) and rooms; no other crate
 // can call it.
 
+#![tactic(auto)]
+
 pub mod allocate;
 pub mod ask;
 pub mod collect;

@@ -4,6 +4,8 @@
 // on a refusal. What C is told is the paper of an answer that meets the promise of the call (specs/Face), so
 // nothing is lost between the two. No function asks anything of its caller but what C's types cannot say:
 // that what is lent is there, is aligned and does not overlap (docs/EMBEDDING.md).
+#![tactic(auto)]
+
 ghost use Rattle.std.specs.Prelude.{[], ◌∷◌};
 ghost use Rattle.model.specs.Numbers.{made_paper, allocated_paper, stood_paper, shaped_paper, read_paper, written_paper, room_paper, collected_paper};
 ghost use Rattle.model.specs.Calls.{Make, Allocate, AskStanding, AskShape, ReadReference, WriteReference, ReadPlain, WritePlain, AskRoom, Collect};

@@ -4,6 +4,8 @@
 // comes first. Where that is content the taken row says which blocks are taken, and the judge of headers and
 // references goes by it. A caller lends the row with all its words 0; to whom the arena is sound, keeps it and asks it
 // from then on.
+#![tactic(auto)]
+
 ghost use Rattle.taken.specs.Row.{ZeroRow};
 ghost use Rattle.judge.specs.Judged.{Judged};
 

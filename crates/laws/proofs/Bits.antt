@@ -127,13 +127,25 @@ bit_op op f g step shr table v w b =
     rw (shr v w b, step (v / 2 ^ b) (w / 2 ^ b), mul-add-mod_self_right)
     (ap₂ (λ (d e : ℕ). eqb (f d e % 2) 1) (sym (one_if_digit (v / 2 ^ b))) (sym (one_if_digit (w / 2 ^ b))) ∙ table (bit v b) (bit w b))
 
+digit_and : (t u : Bool) → eqb (min (one_if t) (one_if u) % 2) 1 ≡ (t && u)
+digit_and true true = refl
+digit_and true false = refl
+digit_and false true = refl
+digit_and false false = refl
+
+digit_or : (t u : Bool) → eqb (max (one_if t) (one_if u) % 2) 1 ≡ (t || u)
+digit_or true true = refl
+digit_or true false = refl
+digit_or false true = refl
+digit_or false false = refl
+
 -- `v & w`
 pub bit_of_and : (v w b : ℕ) → bit (bit_and v w) b ≡ (bit v b && bit w b)
-bit_of_and = bit_op bit_and min ◌&&◌ and_step and_shr (λ t u. elim t [ true ↦ elim u [ true ↦ refl | false ↦ refl ] | false ↦ elim u [ true ↦ refl | false ↦ refl ] ])
+bit_of_and = bit_op bit_and min ◌&&◌ and_step and_shr digit_and
 
 -- `v | w`
 pub bit_of_or : (v w b : ℕ) → bit (bit_or v w) b ≡ (bit v b || bit w b)
-bit_of_or = bit_op bit_or max ◌||◌ or_step or_shr (λ t u. elim t [ true ↦ elim u [ true ↦ refl | false ↦ refl ] | false ↦ elim u [ true ↦ refl | false ↦ refl ] ])
+bit_of_or = bit_op bit_or max ◌||◌ or_step or_shr digit_or
 
 -- one set bit
 pub bit_pow : (b j : ℕ) → bit (2 ^ b) j ≡ eqb j b

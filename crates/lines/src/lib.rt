@@ -4,6 +4,8 @@
 // at most 16 roots. The text alone decides what it means; whatever is not of that form is a bad line. The
 // meaning of a text is given by its fields, parted by spaces (specs/Line), and shown here is that reading a
 // line byte by byte finds exactly that.
+#![tactic(auto)]
+
 ghost use Rattle.std.specs.Prelude.{◌≡◌, true, ◌+◌, ◌-◌, ◌*◌, ◌<◌, ◌≤◌, min, length, take};
 ghost use Rattle.lines.specs.Line.{all_digits, value, said, meaning, order_meaning, roots_of};
 ghost use Rattle.lines.specs.Reading.{Digits, NumberIn, Row};

@@ -4,6 +4,8 @@
 // A handle, a block index and a word offset are never taken for each other: each is a type of its own.
 
 // A block as the caller knows it: segment x 2,048 + block index + 1. Handle 0 means none.
+#![tactic(auto)]
+
 #[derive(Drop)]
 pub struct Handle(pub u32);
 

@@ -1,4 +1,6 @@
 // The refusal number of every answer, 0 for a grant: that of the answer on document 01's paper (crate model, specs/Numbers).
+#![tactic(auto)]
+
 ghost use Rattle.std.specs.Prelude.{◌≡◌};
 ghost use Rattle.model.specs.Numbers.{made_paper, allocated_paper, stood_paper, shaped_paper, read_paper, written_paper, room_paper, collected_paper};
 

@@ -7,6 +7,8 @@
 // and from classes, groups and former ranks the heads of the new records and the new places. Then everything is written:
 // each record with its head and the levels of its marks, and the places. Word 0 and the blocks stay. Shown
 // here: the arena afterwards, word by word, is that of document 01 as crate model states it.
+#![tactic(auto)]
+
 ghost use Rattle.ranking.specs.Anew.{Reached, Anew};
 
 use crate::heads::new_heads;

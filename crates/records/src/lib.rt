@@ -8,6 +8,8 @@
 // No word is copied. A clause over segments or classes goes through them in turn and leaves at the first that fails
 // (proofs/LoopLaws). The levels of a record are judged by its own words, each level by the level below it
 // (proofs/OwnLaws).
+#![tactic(auto)]
+
 ghost use Rattle.std.specs.Prelude.{◌≡◌};
 ghost use Rattle.records.specs.Judged.{records_sound};
 

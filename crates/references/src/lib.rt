@@ -5,6 +5,8 @@
 // small blocks are gathered into one row (gather), and that row is tested flat. Small blocks of which 32 in a row are
 // taken are gathered together (beside).
 
+#![tactic(auto)]
+
 mod beside;
 mod gather;
 pub mod judge;

@@ -5,5 +5,7 @@
 // asks whether a handle is 0 or that of a taken block asks one bit of this row, and the number of taken blocks is its
 // count of ones, but for that of handle 0.
 
+#![tactic(auto)]
+
 pub mod ask;
 pub mod row;

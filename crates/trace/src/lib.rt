@@ -9,6 +9,8 @@
 // Proved: the list is that of demand 3, the later words of the lent list are unchanged, and exactly the
 // listed blocks are marked. Functions speak of lists of handles (crate ways, Put); only the last loop names
 // the invariant of the order (crate ways, Trace).
+#![tactic(auto)]
+
 ghost use Rattle.std.specs.Prelude.{◌≡◌, ◌&&◌, ◌≤◌, ltb};
 ghost use Rattle.trace.specs.Trace.{Traceable, Traced, Turn, Turned};
 

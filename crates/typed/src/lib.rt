@@ -8,6 +8,8 @@
 // Shown here of each piece, behind what is held of the line before it: every line that ends is answered by the
 // call that it means (specs/Orders), and what is held is the line that goes on (specs/Held). The text of an
 // answer is its words, byte by byte (specs/Answers). What the system reads and writes is not shown.
+#![tactic(auto)]
+
 ghost use Rattle.std.specs.Prelude.{◌≡◌, ◌≤◌, length, take};
 ghost use Rattle.lines.specs.Line.{meaning};
 ghost use Rattle.typed.specs.Held.{held_bytes, held_line, joined, TookByte, TookBytes, Ended};

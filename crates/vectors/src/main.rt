@@ -1,4 +1,6 @@
 // Document 01's examples, run: the expected numbers stand in the file stdout.
+#![tactic(auto)]
+
 use drawing::ask::shape;
 use drawing::collect::collect;
 use drawing::make::make;

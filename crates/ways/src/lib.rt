@@ -20,3 +20,5 @@
 // its first way and later than all before it: so it goes on the end. The ways worth looking at are the
 // roots in turn, then for each listed block its first way and each of its fields in turn; any other
 // way that is earlier leads to a block whose first way was looked at.
+
+#![tactic(auto)]

@@ -4,6 +4,8 @@
 // it computes, as crate model states it. What follows of those definitions, that a packed word gives
 // its fields back or that two blocks never overlap, stands in proofs/: FieldLaws, ClassLaws, HandleLaws.
 
+#![tactic(auto)]
+
 pub mod bits;
 pub mod class;
 pub mod fields;
