@@ -12,7 +12,7 @@ use words::class::blocks;
 use words::fields::{place_index, place_rank};
 
 // A block by its segment, the rank of that in its class, and its index there.
-#[derive(Drop)]
+#[derive(Clone, Copy)]
 pub struct Spot {
     pub segment: u32,
     pub rank: u32,
@@ -20,7 +20,7 @@ pub struct Spot {
 }
 
 // A block of one of the class's own segments, block 0 of a pool segment that joins the class, or none.
-#[derive(Drop)]
+#[derive(Clone, Copy)]
 pub enum Found {
     Here(Spot),
     Joins(Spot),

@@ -29,7 +29,7 @@ fn collect_sound(
 }
 
 // The refusal of a collection, 0 if there is none, and then how many blocks are taken.
-#[derive(Drop)]
+#[derive(Clone, Copy)]
 pub struct Verdict {
     pub number: u32,
     pub taken: usize,

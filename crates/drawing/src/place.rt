@@ -9,7 +9,7 @@ use words::fields::shape;
 use words::slices::wide;
 
 // A refusal number, 0 if granted, and on a grant the offset of the first plain word and how many there are.
-#[derive(Drop)]
+#[derive(Clone, Copy)]
 pub struct Place {
     pub number: u32,
     pub at: WordOffset,

@@ -6,14 +6,14 @@ ghost use Rattle.drawing_c.specs.Face.{says};
 use model::{Allocated, Collected, Made, Read, Room, Shaped, Standing, Stood, Written};
 
 // A number and one value.
-#[derive(Drop)]
+#[derive(Clone, Copy)]
 pub struct Value {
     pub number: u32,
     pub value: u32,
 }
 
 // A number and the values of a shape.
-#[derive(Drop)]
+#[derive(Clone, Copy)]
 pub struct ShapeValues {
     pub number: u32,
     pub n: u32,
@@ -22,7 +22,7 @@ pub struct ShapeValues {
 }
 
 // A number and the values of a standing.
-#[derive(Drop)]
+#[derive(Clone, Copy)]
 pub struct StandingValues {
     pub number: u32,
     pub standing: u32,

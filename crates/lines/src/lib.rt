@@ -11,7 +11,7 @@ ghost use Rattle.lines.specs.Line.{all_digits, value, said, meaning, order_meani
 ghost use Rattle.lines.specs.Reading.{Digits, NumberIn, Row};
 
 // What a line asks for. The roots of a collection stand in a row beside it.
-#[derive(Drop)]
+#[derive(Clone, Copy)]
 pub enum Order {
     Allocate(u32, u32, u8),
     Link(u32, u32, u32),
@@ -20,7 +20,7 @@ pub enum Order {
 }
 
 // A number, and how many bytes were read for it.
-#[derive(Drop)]
+#[derive(Clone, Copy)]
 enum Number {
     Value(u32, usize),
     Bad,

@@ -6,20 +6,20 @@
 // A block as the caller knows it: segment x 2,048 + block index + 1. Handle 0 means none.
 #![tactic(auto)]
 
-#[derive(Drop)]
+#[derive(Clone, Copy)]
 pub struct Handle(pub u32);
 
 // The place of a block among the blocks of its segment, from 0.
-#[derive(Drop)]
+#[derive(Clone, Copy)]
 pub struct BlockIndex(pub u32);
 
 // The place of a word in the arena, from 0.
-#[derive(Drop)]
+#[derive(Clone, Copy)]
 pub struct WordOffset(pub usize);
 
 // What a block's header says: the number of words after it, how many of those are references, and a
 // tag of the owner's choosing.
-#[derive(Drop)]
+#[derive(Clone, Copy)]
 pub struct Shape {
     pub n: u32,
     pub r: u32,
@@ -27,7 +27,7 @@ pub struct Shape {
 }
 
 // What stands behind a handle.
-#[derive(Drop)]
+#[derive(Clone, Copy)]
 pub enum Standing {
     None,
     Outside,
@@ -36,14 +36,14 @@ pub enum Standing {
 }
 
 // The answer of make.
-#[derive(Drop)]
+#[derive(Clone, Copy)]
 pub enum Made {
     Fresh,
     BadSize,
 }
 
 // The answer of allocate.
-#[derive(Drop)]
+#[derive(Clone, Copy)]
 pub enum Allocated {
     Block(Handle),
     Unsound,
@@ -52,14 +52,14 @@ pub enum Allocated {
 }
 
 // The answer of standing.
-#[derive(Drop)]
+#[derive(Clone, Copy)]
 pub enum Stood {
     Is(Standing),
     Unsound,
 }
 
 // The answer of shape.
-#[derive(Drop)]
+#[derive(Clone, Copy)]
 pub enum Shaped {
     Is(Shape),
     Unsound,
@@ -67,7 +67,7 @@ pub enum Shaped {
 }
 
 // The answer of reading a reference or a plain word.
-#[derive(Drop)]
+#[derive(Clone, Copy)]
 pub enum Read {
     Value(u32),
     Unsound,
@@ -76,7 +76,7 @@ pub enum Read {
 }
 
 // The answer of writing a reference or a plain word.
-#[derive(Drop)]
+#[derive(Clone, Copy)]
 pub enum Written {
     Done,
     Unsound,
@@ -86,7 +86,7 @@ pub enum Written {
 }
 
 // The answer of room.
-#[derive(Drop)]
+#[derive(Clone, Copy)]
 pub enum Room {
     Blocks(u32),
     Unsound,
@@ -94,7 +94,7 @@ pub enum Room {
 }
 
 // The answer of collect.
-#[derive(Drop)]
+#[derive(Clone, Copy)]
 pub enum Collected {
     Live(u32),
     Unsound,

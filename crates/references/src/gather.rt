@@ -18,14 +18,14 @@ use words::handles::offset;
 use words::slices::wide;
 
 // What was gathered: whether all headers are right, and how many references there are if they are.
-#[derive(Drop)]
+#[derive(Clone, Copy)]
 pub struct Gathered {
     pub right: bool,
     pub count: usize,
 }
 
 // A segment, its class, and the number of segments.
-#[derive(Drop)]
+#[derive(Clone, Copy)]
 pub struct Member {
     pub n: u32,
     pub s: u32,

@@ -78,7 +78,7 @@ fn gather_block(arena: &[u32], n: u32, h: u32, row: &mut [u32], end: usize) -> u
 }
 
 // How many blocks were taken off a queue, and where their references end in the row.
-#[derive(Drop)]
+#[derive(Clone, Copy)]
 pub struct Run {
     pub blocks: usize,
     pub end: usize,

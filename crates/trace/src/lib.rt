@@ -23,7 +23,7 @@ pub mod list;
 pub mod marks;
 
 // Where the queue begins and ends in the list.
-#[derive(Drop)]
+#[derive(Clone, Copy)]
 pub struct Queue {
     pub head: usize,
     pub tail: usize,

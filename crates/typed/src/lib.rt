@@ -25,14 +25,14 @@ use model::{Allocated, Collected, Handle, Written};
 mod say;
 
 // How many bytes of the last line are held, or that there is no more to do.
-#[derive(Drop)]
+#[derive(Clone, Copy)]
 pub enum Held {
     Bytes(usize),
     Stop,
 }
 
 // The answer to a line.
-#[derive(Drop)]
+#[derive(Clone, Copy)]
 pub enum Answer {
     Allocated(Allocated),
     Written(Written),
