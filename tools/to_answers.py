@@ -79,8 +79,10 @@ def turn(crate, folder, path, it):
     module = f"Rattle.{crate}.proofs." + path.replace("/", ".")
     needs = {norm(a): b for a, b in it["needs"]}
     asked = {norm(a): p for (a, _), p in zip(it["needs"], it["asked_at"])}
-    places = {p[0]: p for p in it["places"]}
-    new_place = dict(zip((p[0] for p in it["places"]), it["places_by_name"]))
+    places = {norm(p[0]): [norm(p[0]), p[1] and norm(p[1])] + p[2:] for p in it["places"]}
+    new_place = dict(zip(places, it["places_by_name"]))
+    asked = {a: [norm(p[0]), p[1]] for a, p in asked.items()}
+    helper_place = {}
     steps, fields = {}, {}
     for p in it["places"]:
         old, new = p[2]
@@ -118,9 +120,9 @@ def turn(crate, folder, path, it):
 
         def up(p, n):
             for _ in range(n):
-                if p not in places or places[p][1] is None:
-                    raise Left(f"no place before {p}")
-                p = places[p][1]
+                # the names have fewer places than the older kit had: what is cited goes by its step's name anyway
+                if p in places and places[p][1] is not None:
+                    p = places[p][1]
             return p
 
         # aliases of places
@@ -136,6 +138,9 @@ def turn(crate, folder, path, it):
             at = up(alias[who], befores.count(".before"))
             parts = [p for p in (rest or "").split(".") if p]
             if not parts:
+                h = re.search(r"(" + NAME + r") \(?$", m.string[: m.start()])
+                if h and h.group(1) in helper_place:
+                    at = helper_place[h.group(1)]
                 if at == place and goal is not None and who == var and not befores:
                     used_places.add(new_place[at])
                     return f"(goal.at.{goal} c).{new_place[at]}"
@@ -161,6 +166,11 @@ def turn(crate, folder, path, it):
             at = line.find("--")
             out.append(re.sub(pattern, one, line))
         return "\n".join(out)
+
+    for d in decls:
+        m = re.search(r"(?:\(" + NAME + r" :|:) tie\.(?!Need|invariant|decreases)(" + NAME + r")", "\n".join(d["lines"]))
+        if m and norm(m.group(1)) in places:
+            helper_place[d["name"]] = norm(m.group(1))
 
     for d in decls:
         lines = "\n".join(d["lines"])
@@ -229,14 +239,20 @@ def turn(crate, folder, path, it):
         # a helper
         body = lines
         m = re.search(r"\((" + NAME + r") : tie\.(" + NAME + r")([^()]*)\)", body)
-        if m:
-            var, old = m.group(1), m.group(2)
+        n = re.match(r"(?:abbrev )?(" + NAME + r") : tie\.(" + NAME + r")([^→]*) →[^\n]*\n", body)
+        if m or n:
+            old = norm((m or n).group(2))
             if old not in places:
                 raise Left(f"helper at {old}")
             new = new_place[old]
             used_places.add(new)
-            sig = body[: m.start()] + f"({var} : {new})" + body[m.end():]
-            body = rewrite(sig, old, None, var)
+            if m:
+                var = m.group(1)
+                body = body[: m.start()] + f"({var} : {new})" + body[m.end():]
+            else:
+                var = re.search(r"^" + re.escape(n.group(1)) + r" (" + NAME + r")", body, re.M).group(1)
+                body = body[: n.start(2) - 4] + new + body[n.end(3):]
+            body = rewrite(body, old, None, var)
         elif "tie." in body:
             raise Left(f"{d['name']} names tie")
         helpers.append("\n".join(d["comments"] + [body]))

@@ -1,0 +1,20 @@
+-- `bitmap::search::free_in` meets its contract: the first free bit of the word that stands there.
+-- Assumes nothing.
+use Prim.Native.Nat.{ℕ, ◌-◌}
+use native.Mathlib.Omega.{arith}
+use mathlib.Core.Path.{ap, ◌∙◌}
+use mathlib.Core.Bool.{Bool, not}
+use borrow.Author.Rules.{rules}
+use Rattle.model.specs.Below.{first_from}
+use Rattle.model.specs.Word.{word, bit}
+use Rattle.laws.proofs.Below.{first_is}
+use Rattle.bitmap.proofs.search.free_in.Goals as goal
+
+pub returns : goal.returns
+returns c =
+    let a = c.args in
+    let free : ℕ → ℕ → Bool = λ o x. not (bit (word a.rec.now o) x) in
+    let at = c.word_at-at.result in (
+      c.first_free.ensures ∙ ap (λ (o : ℕ). first_from a.b (32 - a.b) (free o)) c.word_at-at.ensures.0,
+      omega (arith, (first_is a.b (32 - a.b) (free at)).within),
+    )

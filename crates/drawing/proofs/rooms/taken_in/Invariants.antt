@@ -1,0 +1,17 @@
+-- `drawing::rooms::taken_in` counts the taken blocks of a segment. The loop's invariant: the ones of the first j words are counted.
+-- Assumes nothing.
+use Prim.Native.Nat.{ℕ, ◌+◌, ◌-◌, ◌*◌, ◌≤◌}
+use native.Mathlib.Omega.{arith}
+use mathlib.Core.Path.{◌≡◌, ap, ap₂, sym, ◌∙◌}
+use borrow.Author.Rules.{rules}
+use Rattle.model.specs.Below.{count_below}
+use Rattle.model.specs.Word.{word, bit}
+use Rattle.laws.proofs.Below.{count_below_le}
+use Rattle.drawing.proofs.RoomLaws.{segment_bit, count_more}
+use Rattle.drawing.proofs.rooms.taken_in.Given as goal
+
+abbrev pub invariant-loop-j : goal.invariant-loop-j
+invariant-loop-j l = (l.from ≡ 1 + 64 * l.segment) × (l.j ≤ 64) × (l.count ≡ count_below (32 * l.j) (segment_bit l.row l.segment))
+
+abbrev pub decreases-loop-j : goal.decreases-loop-j
+decreases-loop-j l = 64 - l.j

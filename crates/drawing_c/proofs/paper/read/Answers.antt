@@ -1,0 +1,17 @@
+-- `drawing_c::paper::read` gives the number and the value of each answer: in each arm of the match the answer is that arm's. Assumes nothing.
+use mathlib.Core.Path.{ap, sym, ◌∙◌}
+use Rattle.model.specs.Numbers.{read_paper}
+use borrow.Author.Rules.{rules}
+use Rattle.drawing_c.proofs.paper.read.Goals as goal
+
+pub returns-in-Value : goal.returns-in-Value
+returns-in-Value c = ap read_paper c.a-1.given.1 ∙ sym c.one.ensures
+
+pub returns-in-Unsound : goal.returns-in-Unsound
+returns-in-Unsound c = ap read_paper c.enum_told-1.given.1 ∙ sym c.one-in-Unsound.ensures
+
+pub returns-in-NoBlock : goal.returns-in-NoBlock
+returns-in-NoBlock c = ap read_paper c.enum_told-in-NoBlock-1.given.1 ∙ sym c.one-in-NoBlock.ensures
+
+pub returns-in-NoField : goal.returns-in-NoField
+returns-in-NoField c = ap read_paper c.enum_told-in-NoField-1.given.1 ∙ sym c.one-in-NoField.ensures

@@ -1,0 +1,11 @@
+-- `records::heads::place_named` meets its contract: it asks what the definition asks.
+-- Assumes nothing.
+use Prim.Native.Nat.{ℕ}
+use mathlib.Core.Path.{ap}
+use lib.Dec.{eqb}
+use borrow.Author.Rules.{rules}
+use Rattle.model.specs.Word.{unnamed}
+use Rattle.records.proofs.heads.place_named.Goals as goal
+
+pub returns : goal.returns
+returns c = ap (λ (w : ℕ). eqb (unnamed 20 w) 0) c.place_of.ensures

@@ -1,0 +1,14 @@
+-- `records::places::places` meets its contract: the loop of LoopLaws, over the ten classes.
+-- Assumes nothing.
+use Prim.Native.Nat.{◌-◌, ◌+◌}
+use native.Mathlib.Omega.{arith}
+use borrow.Author.Rules.{rules}
+use Rattle.model.specs.Sound.{place_right, places}
+use Rattle.records.proofs.LoopLaws.{Passed, none_yet, one_more, one_fails, all_passed}
+use Rattle.records.proofs.places.places.Given as goal
+
+abbrev pub invariant-loop-c : goal.invariant-loop-c
+invariant-loop-c l = Passed 10 (λ l.c. place_right l.arena (l.c + 3)) l.c
+
+abbrev pub decreases-loop-c : goal.decreases-loop-c
+decreases-loop-c l = 10 - l.c

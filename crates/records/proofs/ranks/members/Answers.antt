@@ -1,0 +1,22 @@
+-- `records::ranks::members` meets its contract: the counting loop of LoopLaws, over the segments.
+-- Assumes nothing.
+use Prim.Native.Nat.{◌-◌}
+use native.Mathlib.Omega.{arith}
+use borrow.Author.Rules.{rules}
+use Rattle.model.specs.View.{segments, members}
+use Rattle.records.specs.Judged.{has_class}
+use Rattle.records.proofs.LoopLaws.{Counted, none_counted, one_counted, all_counted}
+use Rattle.records.proofs.ranks.members.Goals as goal
+
+pub loop-s-init : goal.loop-s-init
+loop-s-init c = none_counted _ _
+
+pub overflow_add-m : goal.overflow_add-m
+overflow_add-m c = omega (arith, (one_counted c.loop-s.invariant (omega arith) c.has_class.ensures c.one_if-m.ensures).most)
+
+pub loop-s-preserved : goal.loop-s-preserved
+loop-s-preserved c = one_counted c.loop-s.invariant (omega arith) c.has_class.ensures c.one_if-m.ensures
+
+pub returns : goal.returns
+unfolding members
+returns c = all_counted c.loop-s.invariant (omega arith)

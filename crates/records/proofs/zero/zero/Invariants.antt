@@ -1,0 +1,15 @@
+-- `records::zero::zero` meets its contract: the joining loop of LoopLaws, over the words.
+-- Assumes nothing.
+use Prim.Native.Nat.{◌-◌}
+use mathlib.Core.Path.{◌≡◌, refl}
+use native.Mathlib.Omega.{arith}
+use lib.ListN.{length}
+use borrow.Author.Rules.{rules}
+use Rattle.records.proofs.LoopLaws.{Joined, none_joined, one_joined, all_joined}
+use Rattle.records.proofs.zero.zero.Given as goal
+
+abbrev pub invariant-loop-j : goal.invariant-loop-j
+invariant-loop-j l = (l.j-end ≡ length l.ws) × Joined l.ws l.j l.all
+
+abbrev pub decreases-loop-j : goal.decreases-loop-j
+decreases-loop-j l = l.j-end - l.j

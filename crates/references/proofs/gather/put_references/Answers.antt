@@ -1,0 +1,16 @@
+-- `references::gather::put_references` meets its contract: as many words are copied as there are references, or more.
+-- Assumes nothing.
+use native.Mathlib.Omega.{arith}
+use borrow.Author.Rules.{rules}
+use borrow.Author.Tests.{ltb-true}
+use Rattle.references.proofs.GatherLaws.{copied_less}
+use Rattle.references.proofs.gather.put_references.Goals as goal
+
+pub returns-then-block-eq2 : goal.returns-then-block-eq2
+returns-then-block-eq2 c = copied_less c.args.r c.copy.ensures (omega arith) (omega arith)
+
+pub returns-then-block-eq4 : goal.returns-then-block-eq4
+returns-then-block-eq4 c = copied_less c.args.r c.copy-then-block-eq4.ensures (omega arith) (omega arith)
+
+pub returns-then-r-lt8 : goal.returns-then-r-lt8
+returns-then-r-lt8 c = copied_less c.args.r c.copy-then-r-lt8.ensures (omega (arith, ltb-true)) (omega arith)

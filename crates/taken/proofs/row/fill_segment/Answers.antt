@@ -1,0 +1,71 @@
+-- `taken::row::fill_segment` meets its contract: a segment in the pool has no taken block, and one of a class those of its limit and its bits.
+-- Assumes nothing.
+use Prim.Native.Nat.{ℕ, ◌+◌, ◌*◌, ◌≤◌}
+use native.Mathlib.Omega.{arith}
+use mathlib.Core.Path.{◌≡◌, ap, ap₂, ◌∙◌, sym}
+use mathlib.Core.Bool.{true, false}
+use mathlib.Core.List.{List}
+use lib.ListN.{length}
+use borrow.Author.Rules.{rules}
+use borrow.Author.Tests.{eq-eqb, ne_eqb}
+use Rattle.model.specs.Word.{word}
+use Rattle.model.specs.Class.{is_class, blocks}
+use Rattle.model.specs.View.{class}
+use Rattle.model.specs.Standing.{in_pool}
+use Rattle.words.proofs.ClassLaws.{class_bounds, blocks_most}
+use Rattle.taken.specs.Row.{taken_word}
+use Rattle.taken.proofs.RowLaws.{record_long, filled_pool, member_word, filled_step}
+use Rattle.taken.proofs.row.fill_segment.Goals as goal
+use Rattle.taken.proofs.row.fill_segment.Goals.{Else-class-eq0}
+
+-- past the test the segment has a class
+used : (c : Else-class-eq0) → in_pool c.args.arena.now c.args.s ≡ false
+used c = ne_eqb _ 0 (λ z. c.if-class-eq0.false (c.class-class.ensures ∙ z))
+
+classed : (c : Else-class-eq0) → is_class (class c.args.arena.now c.args.s) ≡ true
+classed c = let p = c.requires in p.classed.classed _ p.there (used c)
+
+few : (c : Else-class-eq0) → blocks (class c.args.arena.now c.args.s) ≤ 2048
+few c = blocks_most _ (classed c)
+
+pub returns-then-class-eq0 : goal.returns-then-class-eq0
+returns-then-class-eq0 c = filled_pool c.requires (eq-eqb _ 0 (sym c.class-class.ensures ∙ c.if-class-eq0.true))
+
+pub limit_of-requires : goal.limit_of-requires
+limit_of-requires c =
+    let a = c.args in
+    let p = c.requires in
+    let same = c.class-class.ensures in
+    let bounds = class_bounds (class a.arena.now a.s) (classed (goal.at.limit_of-requires c).Else-class-eq0) in
+    record {
+      few = p.classed.few;
+      long = p.classed.long;
+      there = p.there;
+      class = same;
+      low = omega (arith, same, bounds.0);
+      high = omega (arith, same, bounds.1);
+    }
+
+pub fill_words-requires : goal.fill_words-requires
+fill_words-requires c =
+    let a = c.args in
+    let p = c.requires in
+    record {
+      record_long = ap length c.record_of-rec.ensures ∙ record_long a.arena.now a.s p.classed.long p.there;
+      long = p.filled.long;
+      some = omega arith;
+      room = omega (arith, p.classed.few, p.there, c.wide.ensures);
+      most = omega (arith, c.blocks-2.ensures, ap blocks c.class-class.ensures, few (goal.at.fill_words-requires c).Else-class-eq0);
+    }
+
+pub returns : goal.returns
+returns c =
+    let a = c.args in
+    let p = c.requires in
+    let same = c.class-class.ensures in
+    let limit = c.limit_of in
+    let all = c.blocks-2.ensures ∙ ap blocks same in
+    filled_step p c.fill_words.ensures (ap (λ (x : ℕ). 1 + 64 * x) c.wide.ensures) all (omega (arith, all, few (goal.at.returns c).Else-class-eq0))
+    (λ j l.
+    ap₂ (λ (rec : List ℕ) (n : ℕ). taken_word (word rec (1 + j)) limit.result n j) c.record_of-rec.ensures all
+    ∙ member_word a.arena.now a.s limit.result j p.there (used (goal.at.returns c).Else-class-eq0) limit.ensures l)

@@ -1,0 +1,16 @@
+-- `trace::gather::first` meets its contract. The loop's invariant: the first f references, if there are as many, have been copied.
+-- Assumes nothing.
+use Prim.Native.Nat.{◌-◌, ◌≤◌}
+use mathlib.Core.Path.{◌≡◌, refl}
+use native.Mathlib.Omega.{arith}
+use lib.ListN.{length, length-set}
+use borrow.Author.Rules.{rules}
+use Rattle.trace.specs.Gather.{First}
+use Rattle.trace.proofs.GatherLaws.{first_none, first_more}
+use Rattle.trace.proofs.gather.first.Given as goal
+
+abbrev pub invariant-loop-f : goal.invariant-loop-f
+invariant-loop-f l = (l.f ≤ l.n) × (length l.row ≡ length l.initial.row) × First l.block l.initial.row l.end l.f l.row
+
+abbrev pub decreases-loop-f : goal.decreases-loop-f
+decreases-loop-f l = l.n - l.f

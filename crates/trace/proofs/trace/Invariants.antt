@@ -1,0 +1,17 @@
+-- `trace::trace` meets its contract. The loop's invariant: the list so far is that of the order of demand 3 up to the head, and its later words are
+-- as they were. The measure is what the head has left of the list.
+-- Assumes nothing.
+use Prim.Native.Nat.{◌-◌, ◌≤◌}
+use mathlib.Core.Path.{◌≡◌, refl, sym}
+use native.Mathlib.Omega.{arith}
+use lib.ListN.{length}
+use Rattle.soundness.proofs.Facts.{sound_facts}
+use Rattle.trace.proofs.TraceLaws.{SoFar, trace_roots, trace_start, so_far_most, so_far_tail, so_far_turn, so_far_longer, so_far_on, so_far_done, went_on, ended}
+use Rattle.trace.proofs.trace.Given as goal
+
+abbrev pub invariant-loop-row : goal.invariant-loop-row
+invariant-loop-row l =
+    (length l.list ≡ length l.initial.list) × (length l.marks ≡ length l.initial.marks) × (length l.row ≡ 4096) × (l.initial.tail ≤ l.tail) × SoFar l.arena l.roots l.initial.list l.n l.head l.tail l.list l.marks
+
+abbrev pub decreases-loop-row : goal.decreases-loop-row
+decreases-loop-row l = length l.initial.list - l.head
