@@ -76,7 +76,7 @@ free_in-requires t c =
     record {
       long = c.requires.long;
       level = l<3 c.requires;
-      inside = word_inside (goal.at.free_in-requires t c).Else-next-level_end;
+      inside = word_inside t (goal.at.free_in-requires t c).Else-next-level_end;
       place = search rules;
     }
 
