@@ -22,10 +22,10 @@ returns-then-not-judge c =
     refused _ 2 _ _ _ (allocate_unsound _ _ _ (sym c.judge.ensures.answered ∙ not-true _ c.if-not-judge.true-raw)) refl
 
 pub returns-then-n-gt1023 : goal.returns-then-n-gt1023
-returns-then-n-gt1023 c = refused _ 3 _ _ _ (allocate_large _ _ _ (is_sound (goal.at.returns-then-n-gt1023 c).Else-not-judge) c.if-n-gt1023.true-raw) refl
+returns-then-n-gt1023 c = refused _ 3 _ _ _ (allocate_large _ _ _ (is_sound (goal.at.returns-then-n-gt1023 c).Else-not-judge) c.if-n-gt1023.true) refl
 
 pub returns-then-n-r : goal.returns-then-n-r
-returns-then-n-r c = refused _ 3 _ _ _ (allocate_more_references _ _ _ (is_sound (goal.at.returns-then-n-r c).Else-not-judge) c.if-n-r.true-raw) refl
+returns-then-n-r c = refused _ 3 _ _ _ (allocate_more_references _ _ _ (is_sound (goal.at.returns-then-n-r c).Else-not-judge) c.if-n-r.true) refl
 
 pub allocate_sound-requires : goal.allocate_sound-requires
 allocate_sound-requires c = record { is_sound = is_sound (goal.at.allocate_sound-requires c).Else-not-judge.before; small = search rules; within = search rules }

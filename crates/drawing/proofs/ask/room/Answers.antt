@@ -23,14 +23,14 @@ returns-then-class-lt3 c =
     let a = c.args in
     let ws = a.arena.now in
     let ruled = is_ruled c.judge.ensures c.if-not-judge.false-raw in
-    refused _ 3 (room ws a.class ∷ []) ws ws (judged ws _ ruled.is_sound ∙ low_class a.class c.if-class-lt3.true-raw) refl
+    refused _ 3 (room ws a.class ∷ []) ws ws (judged ws _ ruled.is_sound ∙ low_class a.class c.if-class-lt3.true) refl
 
 pub returns-then-class-gt12 : goal.returns-then-class-gt12
 returns-then-class-gt12 c =
     let a = c.args in
     let ws = a.arena.now in
     let ruled = is_ruled c.judge.ensures c.if-not-judge.false-raw in
-    refused _ 3 (room ws a.class ∷ []) ws ws (judged ws _ ruled.is_sound ∙ high_class a.class c.if-class-gt12.true-raw) refl
+    refused _ 3 (room ws a.class ∷ []) ws ws (judged ws _ ruled.is_sound ∙ high_class a.class c.if-class-gt12.true) refl
 
 pub room_of-requires : goal.room_of-requires
 room_of-requires c =

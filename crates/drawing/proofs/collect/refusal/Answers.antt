@@ -69,7 +69,7 @@ returns-then-room-taken c = record {
       c.refused-then-room-taken.ensures
       ∙ sym
       (collect_short_list _ _ list (is-sound (goal.at.returns-then-room-taken c).Else-not-judge) (sym (roots-told (goal.at.returns-then-room-taken c).After-all_none_or_taken) ∙ not-false _ c.if-not-all_none_or_taken.false-raw)
-      (omega (arith, long, c.if-room-taken.true-raw, all-counted (goal.at.returns-then-room-taken c).After-wide-taken)));
+      (omega (arith, long, c.if-room-taken.true, all-counted (goal.at.returns-then-room-taken c).After-wide-taken)));
   counted = λ none. absurd (omega (arith, none, c.refused-then-room-taken.ensures));
 }
 
@@ -78,6 +78,6 @@ returns c = record {
   number = λ list long.
       sym
       (collect_granted _ _ list (is-sound (goal.at.returns c).Else-not-judge) (sym (roots-told (goal.at.returns c).After-all_none_or_taken) ∙ not-false _ c.if-not-all_none_or_taken.false-raw)
-      (omega (arith, long, c.if-room-taken.false-raw, all-counted (goal.at.returns c).After-wide-taken)));
+      (omega (arith, long, c.if-room-taken.false, all-counted (goal.at.returns c).After-wide-taken)));
   counted = λ _. all-counted (goal.at.returns c).After-wide-taken.before;
 }

@@ -8,12 +8,12 @@ use Rattle.records.proofs.heads.unnamed_zero.Goals as goal
 
 pub returns-then-arena-ne0 : goal.returns-then-arena-ne0
 unfolding unnamed_zero
-returns-then-arena-ne0 c = simp (ne_eqb _ _ c.if-arena-ne0.true-raw)
+returns-then-arena-ne0 c = simp (ne_eqb _ _ c.if-arena-ne0.true)
 
 pub returns-then-not-places_named : goal.returns-then-not-places_named
 unfolding unnamed_zero
-returns-then-not-places_named c = simp (eq-eqb _ _ c.if-arena-ne0.false-raw, failed c.places_named.ensures c.if-not-places_named.true-raw)
+returns-then-not-places_named c = simp (eq-eqb _ _ c.if-arena-ne0.false, failed c.places_named.ensures c.if-not-places_named.true-raw)
 
 pub returns : goal.returns
 unfolding unnamed_zero
-returns c = simp (eq-eqb _ _ c.if-arena-ne0.false-raw, passed c.places_named.ensures c.if-not-places_named.false-raw, c.heads_named.ensures)
+returns c = simp (eq-eqb _ _ c.if-arena-ne0.false, passed c.places_named.ensures c.if-not-places_named.false-raw, c.heads_named.ensures)

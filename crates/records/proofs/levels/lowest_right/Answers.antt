@@ -11,34 +11,33 @@ use Rattle.model.specs.Word.{word, part}
 use Rattle.records.specs.Own.{word_right}
 use Rattle.records.proofs.OwnLaws.{own_lowest, last_fails, last_passes}
 use Rattle.records.proofs.levels.lowest_right.Goals as goal
-use Rattle.records.proofs.levels.lowest_right.Goals.{After-padding, After-shared_slice_known-2-1}
-
-fits : (c : After-shared_slice_known-2-1) (o : ℕ) → word c.args.rec.now o < 2 ^ 32
-fits c o = omega (arith, c.shared_slice_known-2-1.given o)
+use Rattle.records.proofs.levels.lowest_right.Goals.{After-padding}
 
 -- what is asked of the last used word
-last-right : (c : After-padding)
+last_right : (c : After-padding) (fits : (o : ℕ) → word c.args.rec.now o < 2 ^ 32)
     → let a = c.args in
     let last = word a.rec.now c.word_at.result in
     eqb last (bit_or last c.padding.result) ≡ word_right a.words a.end a.rec.now 0 (a.words - 1)
-last-right c =
+last_right c fits =
     let a = c.args in
     let last = c.word_at in
     let stands = ap (word a.rec.now) last.ensures.0 in
     ap₂ eqb stands
     (own_lowest a.words a.end a.rec.now (a.words - 1) c.bits_in-n.result (word a.rec.now last.result) c.padding.result
-    (omega arith) c.bits_in-n.ensures.0 (fits c.After-shared_slice_known-2-1 last.result) stands c.padding.ensures)
+    (omega arith) c.bits_in-n.ensures.0 (fits last.result) stands c.padding.ensures)
 
 pub returns-then-last-padding : goal.returns-then-last-padding
 returns-then-last-padding c =
-    last_fails c.args.rec.now c.args.words c.args.end c.requires (fits (goal.at.returns-then-last-padding c).After-shared_slice_known-2-1)
-    (sym (last-right (goal.at.returns-then-last-padding c).After-padding) ∙ ne_eqb _ _ c.if-last-padding.true)
+    let fits : (o : ℕ) → word c.args.rec.now o < 2 ^ 32 = λ o. omega (arith, c.type_inv.rec o) in
+    last_fails c.args.rec.now c.args.words c.args.end c.requires fits
+    (sym (last_right (goal.at.returns-then-last-padding c).After-padding fits) ∙ ne_eqb _ _ c.if-last-padding.true)
 
 pub returns : goal.returns
 returns c =
+    let fits : (o : ℕ) → word c.args.rec.now o < 2 ^ 32 = λ o. omega (arith, c.type_inv.rec o) in
     let from = 1 + c.wide-unused.result in
     let begins : from ≡ 1 + c.args.words = omega arith in
     let size : 65 - from ≡ 64 - c.args.words = omega arith in
     c.zero.ensures
-    ∙ last_passes c.args.rec.now c.args.words c.args.end c.requires (fits (goal.at.returns c).After-shared_slice_known-2-1) _ (ap₂ (part c.args.rec.now) begins size)
-    (sym (last-right (goal.at.returns c).After-padding) ∙ eq-eqb _ _ c.if-last-padding.false)
+    ∙ last_passes c.args.rec.now c.args.words c.args.end c.requires fits _ (ap₂ (part c.args.rec.now) begins size)
+    (sym (last_right (goal.at.returns c).After-padding fits) ∙ eq-eqb _ _ c.if-last-padding.false)

@@ -8,7 +8,7 @@ use Rattle.records.proofs.LoopLaws.{Passed, none_yet, one_more, one_fails, all_p
 use Rattle.records.proofs.places.places.Given as goal
 
 abbrev pub invariant-loop-c : goal.invariant-loop-c
-invariant-loop-c l = Passed 10 (λ l.c. place_right l.arena (l.c + 3)) l.c
+invariant-loop-c l = Passed 10 (λ c. place_right l.arena (c + 3)) l.c
 
 abbrev pub decreases-loop-c : goal.decreases-loop-c
 decreases-loop-c l = 10 - l.c

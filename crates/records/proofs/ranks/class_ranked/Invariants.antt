@@ -10,7 +10,7 @@ use Rattle.records.proofs.LoopLaws.{Passed, none_yet, one_more, one_fails, all_p
 use Rattle.records.proofs.ranks.class_ranked.Given as goal
 
 abbrev pub invariant-loop-q : goal.invariant-loop-q
-invariant-loop-q l = Passed (members l.arena l.class) (λ l.q. eqb (holders l.arena l.class l.q) 1) l.q
+invariant-loop-q l = Passed (members l.arena l.class) (λ q. eqb (holders l.arena l.class q) 1) l.q
 
 abbrev pub decreases-loop-q : goal.decreases-loop-q
 decreases-loop-q l = l.m - l.q

@@ -29,7 +29,7 @@ returns-then-not-segment_right c =
     let ws = c.args.arena.now in
     let loop = c.loop-s in
     let wrong = sym c.segment_right.ensures.judged ∙ not-true _ c.if-not-segment_right.true-raw in
-    let inside : loop.s < segments ws = omega (arith, loop.invariant.0, c.loop-s-test.true-raw) in
+    let inside : loop.s < segments ws = omega (arith, loop.invariant.0, c.loop-s-test.true) in
     sym (every_segment_right ws ∙ all_below_fails (segments ws) (segment_right ws) loop.s inside wrong)
 
 pub loop-s-preserved : goal.loop-s-preserved
@@ -43,5 +43,5 @@ pub returns : goal.returns
 returns c =
     let ws = c.args.arena.now in
     let loop = c.loop-s in
-    let end : loop.s ≡ segments ws = omega (arith, loop.invariant.0, loop.invariant.1, c.loop-s-test.false-raw) in
+    let end : loop.s ≡ segments ws = omega (arith, loop.invariant.0, loop.invariant.1, c.loop-s-test.false) in
     sym (every_segment_right ws ∙ ap (λ (n : ℕ). all_below n (segment_right ws)) (sym end) ∙ loop.invariant.3)
