@@ -234,7 +234,7 @@ def turn(crate, folder, path, it):
                 print(f"look: {folder}: {d['name']} takes {params}")
             new = needs[g]
             rest = rewrite(rest, asked[g][0], new)
-            answers.append("\n".join(d["comments"] + [f"pub {new} : goal.{new}", f"{unfolding}{new} c ={rest}"]))
+            answers.append("\n".join(d["comments"] + [f"pub {new} : goal.{new}", f"{unfolding}{new} {' '.join(p for p in params if p != 'κs')} ={rest}"]))
             continue
         # a helper
         body = lines

@@ -74,10 +74,10 @@ write_records-requires c =
 
 pub write_places-requires : goal.write_places-requires
 write_places-requires c =
-    record { room = omega (arith, (size (goal.at.write_places-requires c).Start).long, c.write_records.auto.0); ten = c.new_places-places.ensures.long }
+    record { room = omega (arith, (size (goal.at.write_places-requires c).Start).long, c.write_records.auto.arena); ten = c.new_places-places.ensures.long }
 
 pub returns : goal.returns
-returns c =
+returns c L m =
     c.write_places.ensures
     ∙ ap (λ (vs : List ℕ). put vs 1 c.new_places-places.result) c.write_records.ensures
     ∙ all_collected c.args.arena.now c.args.marks.now c.requires c.count-lives.result c.keys-keys.result c.new_heads-heads.result

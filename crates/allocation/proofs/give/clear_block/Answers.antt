@@ -7,4 +7,4 @@ use Rattle.allocation.proofs.give.clear_block.Goals as goal
 pub returns : goal.returns
 returns c =
     let a = c.args in
-    cleared c.clear.new.0 (length a.block.now) c.header.result _ c.clear.ensures c.requires.some c.header.ensures
+    cleared c.clear.new.ws (length a.block.now) c.header.result _ c.clear.ensures c.requires.some c.header.ensures

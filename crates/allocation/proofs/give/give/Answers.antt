@@ -17,4 +17,4 @@ returns c =
     let taken = c.take in
     let counted = c.segments-n in
     let a = c.args in
-    here_is a.arena.now a.class a.spot a.shape counted.result counted.ensures c.requires taken.new.0 taken.ensures
+    here_is a.arena.now a.class a.spot a.shape counted.result counted.ensures c.requires taken.new.arena taken.ensures

@@ -17,7 +17,7 @@ take-requires c =
     let joined = c.join in
     let counted = c.segments-n in
     let a = c.args in
-    joining_take a.arena.now a.class a.spot a.shape counted.result counted.ensures c.requires joined.new.0 joined.ensures
+    joining_take a.arena.now a.class a.spot a.shape counted.result counted.ensures c.requires joined.new.arena joined.ensures
 
 pub returns : goal.returns
 returns c =
@@ -25,5 +25,5 @@ returns c =
     let joined = c.join in
     let counted = c.segments-n in
     let a = c.args in
-    joining_is a.arena.now a.class a.spot a.shape counted.result counted.ensures c.requires joined.new.0 joined.ensures
-    taken.new.0 taken.ensures
+    joining_is a.arena.now a.class a.spot a.shape counted.result counted.ensures c.requires joined.new.arena joined.ensures
+    taken.new.arena taken.ensures

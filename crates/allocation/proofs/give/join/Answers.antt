@@ -16,5 +16,5 @@ returns c =
     let a = c.args in
     let at : 11 + 68 * w.result ≡ 11 + 68 * a.segment = omega (arith, w.ensures) in
     let size : 68 ≡ 11 + 68 * w.result + 68 - (11 + 68 * w.result) = omega arith in
-    put_lent a.arena.now written.new.0 _ _ _ _ at written.ensures
+    put_lent a.arena.now written.new.rec _ _ _ _ at written.ensures
     (record_length (record_head a.class a.rank 0) a.class (λ k. false) ∙ size)

@@ -36,6 +36,6 @@ pub returns : goal.returns
 returns c =
     let cleared = c.clear_block in
     let a = c.args in
-    put_block_is a.arena.now a.segments a.class a.spot a.shape c.requires cleared.new.0
+    put_block_is a.arena.now a.segments a.class a.spot a.shape c.requires cleared.new.block
     c.offset-at.result.0 c.wide.result c.offset-at.ensures (c.wide.ensures ∙ c.block_words-words.ensures)
     cleared.ensures

@@ -16,7 +16,7 @@ put_place-requires c =
       arith,
       index_fits a.arena.now a.segments a.class a.spot a.shape c.requires,
       c.requires.long,
-      c.put_block.auto.0,
+      c.put_block.auto.arena,
     )
 
 pub returns : goal.returns
@@ -24,4 +24,4 @@ returns c =
     let placed = c.put_place in
     let written = c.put_block in
     let a = c.args in
-    taken_is a.arena.now written.new.0 placed.new.0 a.segments a.class a.spot a.shape written.ensures placed.ensures
+    taken_is a.arena.now written.new.arena placed.new.arena a.segments a.class a.spot a.shape written.ensures placed.ensures

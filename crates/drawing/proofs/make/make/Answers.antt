@@ -29,5 +29,5 @@ pub returns : goal.returns
 returns c =
     let a = c.args in
     let long : length a.arena.now ≡ 11 + 4164 * a.segments = omega arith in
-    rw (made c.clear.new.0 (length a.arena.now) a.segments c.arena_head.result c.clear.ensures long c.arena_head.ensures)
+    rw (made c.clear.new.ws (length a.arena.now) a.segments c.arena_head.result c.clear.ensures long c.arena_head.ensures)
     (granted _ [] (fresh a.segments) a.arena.now (right_size a.arena.now a.segments (omega arith) (omega arith) long))

@@ -18,7 +18,7 @@ own : (c : After-wide) → word c.args.keys.now c.wide.result ≡ word c.args.ke
 own c = ap (word c.args.keys.now) c.wide.ensures
 
 its-group : (c : After-key_group) → c.key_group.result ≡ word c.args.keys.now c.args.s / 256 % 4
-its-group c = c.key_group.ensures ∙ ap (λ (k : ℕ). k / 256 % 4) (own c.After-wide)
+its-group c = c.key_group.ensures ∙ ap (λ (k : ℕ). k / 256 % 4) (ap (word c.args.keys.now) c.wide.ensures)
 
 pub returns-then-key_group-eq-POOL : goal.returns-then-key_group-eq-POOL
 unfolding head_by

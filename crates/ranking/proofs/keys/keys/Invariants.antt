@@ -13,7 +13,7 @@ use Rattle.ranking.proofs.Rows.{row_next}
 use Rattle.ranking.proofs.keys.keys.Given as goal
 
 abbrev pub invariant-loop-s : goal.invariant-loop-s
-invariant-loop-s l = (l.s ≤ l.n) × (length l.keys ≡ 64) × ((t : ℕ) → t < l.s → word l.keys t ≡ own l.arena l.lives t)
+invariant-loop-s l = (l.s ≤ l.n) × (length l.keys ≡ 64) × ((t : ℕ) → t < l.s → word l.keys t ≡ key_of (class l.arena t) (group_of (class l.arena t) (word l.lives t)) (rank l.arena t))
 
 abbrev pub decreases-loop-s : goal.decreases-loop-s
 decreases-loop-s l = l.n - l.s

@@ -42,7 +42,7 @@ set_bit-requires c =
 pub shape_of-rec-then-both : goal.shape_of-rec-then-both
 shape_of-rec-then-both c =
     let a = c.args in
-    c.set_bit.auto.0 ∙ length-set a.rec.now (1 + a.j) _
+    c.set_bit.auto.rec ∙ length-set a.rec.now (1 + a.j) _
 
 pub returns-then-both : goal.returns-then-both
 returns-then-both c =

@@ -21,7 +21,7 @@ next : (d : In-loop-j)
 next d =
     let a = d.args in
     let x = d.loop-j in
-    next_word x.rec (word d.unset.new.0 0) a.class a.marks.now x.j d.requires.class x.invariant.2 (omega (arith, d.blocks-2.ensures))
+    next_word x.rec (word d.unset.new.rec 0) a.class a.marks.now x.j d.requires.class x.invariant.2 (omega (arith, d.blocks-2.ensures))
 
 pub blocks-requires : goal.blocks-requires
 blocks-requires c =
@@ -34,7 +34,7 @@ overflow_add-words c =
 pub loop-j-init : goal.loop-j-init
 loop-j-init c =
     let a = c.args in
-    (omega arith, c.unset.auto.0 ∙ c.requires.long, none_passed c.unset.new.0 (word a.rec.now 0) a.class a.marks.now c.unset.ensures)
+    (omega arith, c.unset.auto.rec ∙ c.requires.long, none_passed c.unset.new.rec (word a.rec.now 0) a.class a.marks.now c.unset.ensures)
 
 pub bounds-marks-wide : goal.bounds-marks-wide
 bounds-marks-wide c =
@@ -48,8 +48,8 @@ loop-j-preserved c =
     let a = c.args in
     let x = c.loop-j in (
       omega arith,
-      c.put_word.auto.0 ∙ x.invariant.1,
-      next_passed x.rec (word c.unset.new.0 0) a.class a.marks.now x.j c.requires.class x.invariant.2 c.put_word.new.0 _
+      c.put_word.auto.rec ∙ x.invariant.1,
+      next_passed x.rec (word c.unset.new.rec 0) a.class a.marks.now x.j c.requires.class x.invariant.2 c.put_word.new.rec _
           c.put_word.ensures (ap (word a.marks.now) c.wide.ensures),
     )
 
@@ -57,5 +57,5 @@ pub returns : goal.returns
 returns c =
     let a = c.args in
     let x = c.loop-j in
-    all_passed x.rec (word c.unset.new.0 0) a.class a.marks.now x.j c.requires.class x.invariant.2 (omega (arith, c.blocks-2.ensures))
+    all_passed x.rec (word c.unset.new.rec 0) a.class a.marks.now x.j c.requires.class x.invariant.2 (omega (arith, c.blocks-2.ensures))
     ∙ ap (λ (ws : List ℕ). word ws 0 ∷ level_rows a.class (mark_in a.marks.now)) c.unset.ensures

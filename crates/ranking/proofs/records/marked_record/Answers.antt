@@ -29,7 +29,7 @@ write_levels-requires c =
 
 pub shape_of-rec : goal.shape_of-rec
 shape_of-rec c =
-    c.write_levels.auto.0 ∙ length-set c.args.rec.now 0 c.args.head
+    c.write_levels.auto.rec ∙ length-set c.args.rec.now 0 c.args.head
 
 pub returns : goal.returns
 unfolding marked_record

@@ -55,11 +55,11 @@ loop-s-preserved c =
     let x = c.loop-s in
     let made : ℕ → List ℕ = new a.heads.now a.marks.now in
     let inside : record_at x.s ≤ length a.arena.now = omega (arith, c.segments-n.ensures, c.requires.long) in
-    let next : c.write_record.new.0 ≡ with_records a.arena.now (x.s + 1) made =
+    let next : c.write_record.new.arena ≡ with_records a.arena.now (x.s + 1) made =
     c.write_record.ensures
     ∙ ap₂ (λ (ws : List ℕ) (o : ℕ). put ws (record_at x.s) (marked_record (word a.heads.now o) (marks_of a.marks.now x.s))) x.invariant.2 c.wide.ensures
     ∙ with_next a.arena.now x.s made (λ k _. new-length a.heads.now a.marks.now k) inside (new-length a.heads.now a.marks.now x.s) in
-    (omega arith, c.write_record.auto.0 ∙ x.invariant.1, next)
+    (omega arith, c.write_record.auto.arena ∙ x.invariant.1, next)
 
 pub returns : goal.returns
 returns c =

@@ -14,7 +14,7 @@ use Rattle.ranking.proofs.RecordLaws.{marked_length, with_none, with_next, with_
 use Rattle.ranking.proofs.records.write_records.Given as goal
 
 abbrev pub invariant-loop-s : goal.invariant-loop-s
-invariant-loop-s l = (l.s ≤ l.n) × (length l.arena ≡ length l.initial.arena) × (l.arena ≡ with_records l.initial.arena l.s (new l.heads l.marks))
+invariant-loop-s l = (l.s ≤ l.n) × (length l.arena ≡ length l.initial.arena) × (l.arena ≡ with_records l.initial.arena l.s (λ t. marked_record (word l.heads t) (marks_of l.marks t)))
 
 abbrev pub decreases-loop-s : goal.decreases-loop-s
 decreases-loop-s l = l.n - l.s
