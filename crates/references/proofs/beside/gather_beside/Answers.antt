@@ -1,5 +1,4 @@
 -- `references::beside::gather_beside` meets its contract. Assumes nothing.
-use borrow.Author.Rules.{rules}
 use Rattle.references.proofs.BesideLaws.{added_beside}
 use Rattle.references.proofs.beside.gather_beside.Goals as goal
 

@@ -4,7 +4,6 @@ use native.Mathlib.Omega.{arith}
 use mathlib.Core.Path.{◌≡◌, refl, ap, ◌∙◌}
 use mathlib.Core.Bool.{Bool, true, false, not}
 use mir.Val.{bool_byte}
-use borrow.Author.Rules.{rules}
 use Rattle.model.specs.Below.{one_if}
 use Rattle.references.proofs.beside.is_wrong.Goals as goal
 

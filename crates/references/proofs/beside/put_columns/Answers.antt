@@ -1,11 +1,8 @@
 -- `references::beside::put_columns` meets its contract. The loop's invariant: the references of the first k blocks are put, and their wrong headers counted.
 -- Assumes nothing.
-use Prim.Native.Nat.{◌-◌, ◌≤◌}
 use native.Mathlib.Omega.{arith}
 use mathlib.Core.Path.{◌≡◌, ap, ◌∙◌}
 use lib.ListN.{length}
-use borrow.Author.Rules.{rules}
-use Rattle.references.specs.Beside.{InColumns}
 use Rattle.references.proofs.BesideLaws.{beside_long, columns_none, columns_step}
 use Rattle.references.proofs.beside.put_columns.Goals as goal
 

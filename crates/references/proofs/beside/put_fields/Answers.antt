@@ -1,10 +1,9 @@
 -- `references::beside::put_fields` meets its contract. The loop's invariant: the first f references are put.
 -- Assumes nothing.
-use Prim.Native.Nat.{◌+◌, ◌-◌, ◌≤◌}
+use Prim.Native.Nat.{◌-◌}
 use native.Mathlib.Omega.{arith}
 use mathlib.Core.Path.{◌≡◌}
 use borrow.Author.Rules.{rules}
-use Rattle.references.specs.Beside.{FieldsPut}
 use Rattle.references.proofs.BesideLaws.{fields_none, fields_step}
 use Rattle.references.proofs.beside.put_fields.Goals as goal
 

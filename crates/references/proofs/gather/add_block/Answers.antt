@@ -1,13 +1,11 @@
 -- `references::gather::add_block` meets its contract: a right header leaves room for itself, so that the references fit.
 -- Assumes nothing.
-use Prim.Native.Nat.{ℕ, ◌+◌}
+use Prim.Native.Nat.{ℕ}
 use native.Mathlib.Omega.{arith}
 use mathlib.Core.Path.{◌≡◌, ap, sym, ◌∙◌}
 use mathlib.Core.List.{◌++◌}
 use mathlib.Core.Bool.{true, false≢true}
 use lib.ListN.{take}
-use borrow.Author.Rules.{rules}
-use borrow.Author.Tests.{not-true, not-false}
 use Rattle.model.specs.Word.{part}
 use Rattle.references.specs.Gather.{header_right}
 use Rattle.references.proofs.GatherLaws.{header_room}
@@ -16,12 +14,12 @@ use Rattle.references.proofs.gather.add_block.Goals.{Else-not-header_right}
 
 -- past the test the header is right
 right : (c : Else-not-header_right) → header_right c.args.class c.args.block.now ≡ true
-right c = sym c.header_right.ensures ∙ not-false _ c.if-not-header_right.false-raw
+right c = sym c.header_right.ensures ∙ c.if-not-header_right.false
 
 pub returns-then-not-header_right : goal.returns-then-not-header_right
 returns-then-not-header_right c = record {
   long = c.requires.long;
-  header = sym (not-true _ c.if-not-header_right.true-raw) ∙ c.header_right.ensures;
+  header = sym c.if-not-header_right.true ∙ c.header_right.ensures;
   room = λ r. absurd (false≢true r);
   few = λ r. absurd (false≢true r);
   words = λ r. absurd (false≢true r);

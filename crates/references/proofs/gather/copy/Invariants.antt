@@ -1,11 +1,7 @@
 -- `references::gather::copy` meets its contract. The loop's invariant: the first f of the words stand behind the first m.
 -- Assumes nothing.
 use Prim.Native.Nat.{◌-◌, ◌≤◌}
-use native.Mathlib.Omega.{arith}
-use mathlib.Core.Path.{◌≡◌}
-use borrow.Author.Rules.{rules}
 use Rattle.references.specs.Gather.{Copied}
-use Rattle.references.proofs.GatherLaws.{copied_none, copied_step}
 use Rattle.references.proofs.gather.copy.Given as goal
 
 abbrev pub invariant-loop-f : goal.invariant-loop-f

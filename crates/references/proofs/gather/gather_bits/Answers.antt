@@ -4,7 +4,7 @@ use native.Mathlib.Omega.{arith}
 use lib.Count.{trailing_le}
 use borrow.Author.Rules.{rules}
 use borrow.Author.Tests.{not-true, not-false}
-use Rattle.references.proofs.GatherLaws.{Left, left_all, left_less, left_step, left_taken, left_none, trailing_lt, gathered_right, gathered_wrong}
+use Rattle.references.proofs.GatherLaws.{left_all, left_less, left_step, left_taken, left_none, trailing_lt, gathered_right, gathered_wrong}
 use Rattle.references.proofs.gather.gather_bits.Goals as goal
 
 pub loop-left-init : goal.loop-left-init

@@ -1,10 +1,6 @@
 -- `references::gather::gather_bits` meets its contract. The loop's invariant: the blocks before the lowest bit that is left are gathered.
 -- Assumes nothing.
-use native.Mathlib.Omega.{arith}
-use lib.Count.{trailing_le}
-use borrow.Author.Rules.{rules}
-use borrow.Author.Tests.{not-true, not-false}
-use Rattle.references.proofs.GatherLaws.{Left, left_all, left_less, left_step, left_taken, left_none, trailing_lt, gathered_right, gathered_wrong}
+use Rattle.references.proofs.GatherLaws.{Left}
 use Rattle.references.proofs.gather.gather_bits.Given as goal
 
 abbrev pub invariant-loop-left : goal.invariant-loop-left

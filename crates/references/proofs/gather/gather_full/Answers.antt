@@ -39,7 +39,7 @@ gather_beside-requires c =
     let a = c.args in
     record {
       beside = record { some = omega arith; few = omega arith; long = ap length c.words_from.ensures ∙ length_part a.arena.now (block_at a.of.n a.of.s a.of.class (32 * a.j)) 64 (omega (arith, full_within p, two (goal.at.gather_beside-requires c).Then-of-eq3)) };
-      own = two branch;
+      own = two (goal.at.gather_beside-requires c).Then-of-eq3;
       long = p.gathered.long;
       room = omega (arith, full_room p, two (goal.at.gather_beside-requires c).Then-of-eq3);
     }
@@ -63,7 +63,7 @@ gather_beside-requires-2 c =
     let a = c.args in
     record {
       beside = record { some = omega arith; few = omega arith; long = ap length c.words_from-2.ensures ∙ length_part a.arena.now (block_at a.of.n a.of.s a.of.class (32 * a.j)) 128 (omega (arith, full_within p, four (goal.at.gather_beside-requires-2 c).Else-of-eq3)) };
-      own = four branch;
+      own = four (goal.at.gather_beside-requires-2 c).Else-of-eq3;
       long = p.gathered.long;
       room = omega (arith, full_room p, four (goal.at.gather_beside-requires-2 c).Else-of-eq3);
     }

@@ -1,16 +1,13 @@
 -- `references::gather::gather_segment` meets its contract. The loop's invariant: the blocks of the first j words are gathered.
 -- Assumes nothing.
-use Prim.Native.Nat.{ℕ, ◌+◌, ◌-◌, ◌*◌, ◌≤◌, ◌<◌}
+use Prim.Native.Nat.{ℕ, ◌+◌, ◌*◌, ◌≤◌, ◌<◌}
 use native.Mathlib.Omega.{arith}
 use mathlib.Core.Path.{◌≡◌, refl, ap, ◌∙◌}
-use mathlib.Core.Bool.{true}
 use borrow.Author.Rules.{rules}
 use borrow.Author.Tests.{not-true, not-false}
 use Rattle.model.specs.Word.{word, bit}
 use Rattle.model.specs.Class.{blocks, words_for}
-use Rattle.model.specs.View.{class}
 use Rattle.words.proofs.ClassLaws.{bounds_class, blocks_most}
-use Rattle.references.specs.Gather.{GatheredBelow}
 use Rattle.references.proofs.GatherLaws.{row_word_bits, gathered_none, gathered_right, gathered_wrong, gathered_end}
 use Rattle.references.proofs.gather.gather_segment.Goals as goal
 use Rattle.references.proofs.gather.gather_segment.Goals.{After-blocks-2}

@@ -1,7 +1,6 @@
 -- `references::gather::put_references` meets its contract: as many words are copied as there are references, or more.
 -- Assumes nothing.
 use native.Mathlib.Omega.{arith}
-use borrow.Author.Rules.{rules}
 use borrow.Author.Tests.{ltb-true}
 use Rattle.references.proofs.GatherLaws.{copied_less}
 use Rattle.references.proofs.gather.put_references.Goals as goal

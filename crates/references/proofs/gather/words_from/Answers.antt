@@ -2,7 +2,6 @@
 use Prim.Native.Nat.{◌+◌, ◌-◌}
 use native.Mathlib.Omega.{arith}
 use mathlib.Core.Path.{◌≡◌, ap₂}
-use borrow.Author.Rules.{rules}
 use Rattle.model.specs.Word.{part}
 use Rattle.references.proofs.gather.words_from.Goals as goal
 

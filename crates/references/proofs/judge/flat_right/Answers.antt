@@ -3,7 +3,6 @@ use Prim.Native.Nat.{ℕ}
 use native.Mathlib.Nat.{sub-zero}
 use mathlib.Core.Path.{ap, ◌∙◌}
 use lib.ListN.{take}
-use borrow.Author.Rules.{rules}
 use Rattle.taken.specs.Row.{row_none_or_taken}
 use Rattle.references.specs.Gather.{all_words}
 use Rattle.references.proofs.judge.flat_right.Goals as goal

@@ -1,11 +1,10 @@
 -- `references::judge::large_right` meets its contract. The loop's invariant: the first k blocks are right.
 -- Assumes nothing.
-use Prim.Native.Nat.{ℕ, ◌-◌, ◌≤◌}
+use Prim.Native.Nat.{ℕ}
 use native.Mathlib.Omega.{arith}
 use mathlib.Core.Path.{◌≡◌, refl, sym, ap, ap₂, ◌∙◌}
-use mathlib.Core.Bool.{true, ◌&&◌}
+use mathlib.Core.Bool.{◌&&◌}
 use borrow.Author.Rules.{rules}
-use borrow.Author.Tests.{not-true, not-false}
 use Rattle.model.specs.Below.{all_below}
 use Rattle.model.specs.Class.{blocks}
 use Rattle.laws.proofs.Below.{all_below_step, all_below_fails}
@@ -21,7 +20,7 @@ returns-then-not-block_right c =
     let a = c.args in
     let loop = c.loop-k in
     sym (all_below_fails (blocks a.of.class) (right_at a.arena.now a.of.s) loop.k (omega (arith, loop.invariant.0))
-    (sym c.block_right.ensures ∙ not-true _ c.if-not-block_right.true-raw))
+    (sym c.block_right.ensures ∙ c.if-not-block_right.true))
 
 pub loop-k-preserved : goal.loop-k-preserved
 loop-k-preserved c =
@@ -30,7 +29,7 @@ loop-k-preserved c =
       loop.invariant.0,
       search rules,
       all_below_step loop.k (right_at a.arena.now a.of.s)
-          ∙ ap₂ ◌&&◌ loop.invariant.2 (sym c.block_right.ensures ∙ not-false _ c.if-not-block_right.false-raw),
+          ∙ ap₂ ◌&&◌ loop.invariant.2 (sym c.block_right.ensures ∙ c.if-not-block_right.false),
     )
 
 pub returns : goal.returns

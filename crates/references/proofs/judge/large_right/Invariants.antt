@@ -1,14 +1,10 @@
 -- `references::judge::large_right` meets its contract. The loop's invariant: the first k blocks are right.
 -- Assumes nothing.
-use Prim.Native.Nat.{ℕ, ◌-◌, ◌≤◌}
-use native.Mathlib.Omega.{arith}
-use mathlib.Core.Path.{◌≡◌, refl, sym, ap, ap₂, ◌∙◌}
-use mathlib.Core.Bool.{true, ◌&&◌}
-use borrow.Author.Rules.{rules}
-use borrow.Author.Tests.{not-true, not-false}
+use Prim.Native.Nat.{◌-◌, ◌≤◌}
+use mathlib.Core.Path.{◌≡◌}
+use mathlib.Core.Bool.{true}
 use Rattle.model.specs.Below.{all_below}
 use Rattle.model.specs.Class.{blocks}
-use Rattle.laws.proofs.Below.{all_below_step, all_below_fails}
 use Rattle.references.specs.Gather.{right_at}
 use Rattle.references.proofs.judge.large_right.Given as goal
 

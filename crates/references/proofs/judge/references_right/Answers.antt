@@ -2,7 +2,6 @@
 use Prim.Native.Nat.{ℕ, ◌+◌, ◌-◌}
 use native.Mathlib.Omega.{arith}
 use mathlib.Core.Path.{◌≡◌, ap, ◌∙◌}
-use borrow.Author.Rules.{rules}
 use Rattle.model.specs.Word.{part}
 use Rattle.model.specs.View.{r_in}
 use Rattle.taken.specs.Row.{row_none_or_taken}

@@ -11,7 +11,7 @@ use Rattle.words.proofs.ClassLaws.{class_bounds}
 use Rattle.references.specs.Gather.{Of}
 use Rattle.references.proofs.JudgeLaws.{judged_pool, large_judged}
 use Rattle.references.proofs.judge.segment_right.Goals as goal
-use Rattle.references.proofs.judge.segment_right.Goals.{Else-class-eq0, Else-class-ge8, Then-class-ge8}
+use Rattle.references.proofs.judge.segment_right.Goals.{Else-class-eq0}
 
 -- past the test the segment is not in the pool, so it has a class
 used : (c : Else-class-eq0) → in_pool c.args.arena.now c.args.s ≡ false
@@ -48,7 +48,7 @@ returns-then-class-eq0 c =
 pub large_right-requires : goal.large_right-requires
 large_right-requires c =
     let p = c.requires in
-    record { of = of (goal.at.large_right-requires c).Then-class-ge8.before; taken = p.taken }
+    record { of = of (goal.at.large_right-requires c).Else-class-eq0; taken = p.taken }
 
 pub returns-then-class-ge8 : goal.returns-then-class-ge8
 returns-then-class-ge8 c =
@@ -58,7 +58,7 @@ returns-then-class-ge8 c =
 pub small_right-requires : goal.small_right-requires
 small_right-requires c =
     let p = c.requires in
-    record { of = of (goal.at.small_right-requires c).Else-class-ge8.before; small = search rules; taken = p.taken; long = p.long }
+    record { of = of (goal.at.small_right-requires c).Else-class-eq0; small = search rules; taken = p.taken; long = p.long }
 
 pub returns : goal.returns
 returns c = c.small_right.ensures

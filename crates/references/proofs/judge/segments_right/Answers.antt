@@ -1,12 +1,10 @@
 -- `references::judge::segments_right` meets its contract. The loop's invariant: the first s segments are right.
 -- Assumes nothing.
-use Prim.Native.Nat.{ℕ, ◌-◌, ◌≤◌, ◌<◌}
+use Prim.Native.Nat.{ℕ, ◌<◌}
 use native.Mathlib.Omega.{arith}
 use mathlib.Core.Path.{◌≡◌, ap, ap₂, sym, ◌∙◌}
-use mathlib.Core.Bool.{true, ◌&&◌}
-use lib.ListN.{length}
+use mathlib.Core.Bool.{◌&&◌}
 use borrow.Author.Rules.{rules}
-use borrow.Author.Tests.{not-true, not-false}
 use Rattle.model.specs.Below.{all_below}
 use Rattle.model.specs.View.{segments}
 use Rattle.laws.proofs.Below.{all_below_step, all_below_fails}
@@ -28,7 +26,7 @@ pub returns-then-not-segment_right : goal.returns-then-not-segment_right
 returns-then-not-segment_right c =
     let ws = c.args.arena.now in
     let loop = c.loop-s in
-    let wrong = sym c.segment_right.ensures.judged ∙ not-true _ c.if-not-segment_right.true-raw in
+    let wrong = sym c.segment_right.ensures.judged ∙ c.if-not-segment_right.true in
     let inside : loop.s < segments ws = omega (arith, loop.invariant.0, c.loop-s-test.true) in
     sym (every_segment_right ws ∙ all_below_fails (segments ws) (segment_right ws) loop.s inside wrong)
 
@@ -36,7 +34,7 @@ pub loop-s-preserved : goal.loop-s-preserved
 loop-s-preserved c =
     let ws = c.args.arena.now in
     let loop = c.loop-s in
-    let right = sym c.segment_right.ensures.judged ∙ not-false _ c.if-not-segment_right.false-raw in
+    let right = sym c.segment_right.ensures.judged ∙ c.if-not-segment_right.false in
     (loop.invariant.0, search rules, c.segment_right.ensures.long, all_below_step loop.s (segment_right ws) ∙ ap₂ ◌&&◌ loop.invariant.3 right)
 
 pub returns : goal.returns

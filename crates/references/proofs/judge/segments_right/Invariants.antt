@@ -1,17 +1,12 @@
 -- `references::judge::segments_right` meets its contract. The loop's invariant: the first s segments are right.
 -- Assumes nothing.
-use Prim.Native.Nat.{ℕ, ◌-◌, ◌≤◌, ◌<◌}
-use native.Mathlib.Omega.{arith}
-use mathlib.Core.Path.{◌≡◌, ap, ap₂, sym, ◌∙◌}
-use mathlib.Core.Bool.{true, ◌&&◌}
+use Prim.Native.Nat.{◌-◌, ◌≤◌}
+use mathlib.Core.Path.{◌≡◌}
+use mathlib.Core.Bool.{true}
 use lib.ListN.{length}
-use borrow.Author.Rules.{rules}
-use borrow.Author.Tests.{not-true, not-false}
 use Rattle.model.specs.Below.{all_below}
 use Rattle.model.specs.View.{segments}
-use Rattle.laws.proofs.Below.{all_below_step, all_below_fails}
 use Rattle.references.specs.Gather.{segment_right}
-use Rattle.references.proofs.JudgeLaws.{every_segment_right}
 use Rattle.references.proofs.judge.segments_right.Given as goal
 
 abbrev pub invariant-loop-s : goal.invariant-loop-s

@@ -1,7 +1,6 @@
 -- `references::judge::small_right` meets its contract. Assumes nothing.
 use native.Mathlib.Omega.{arith}
 use mathlib.Core.Path.{sym}
-use borrow.Author.Rules.{rules}
 use borrow.Author.Tests.{not-true, not-false}
 use Rattle.references.proofs.JudgeLaws.{of_used, judged_wrong, judged_right}
 use Rattle.references.proofs.judge.small_right.Goals as goal

@@ -1,7 +1,6 @@
 -- `taken::ask::all_none_or_taken` meets its contract. Assumes nothing.
 use native.Mathlib.Omega.{arith}
 use mathlib.Core.Path.{sym, ◌∙◌}
-use borrow.Author.Rules.{rules}
 use Rattle.laws.proofs.Bits.{bit_low}
 use Rattle.taken.proofs.RowLaws.{asked_over, asked_all}
 use Rattle.taken.proofs.ask.all_none_or_taken.Goals as goal

@@ -1,5 +1,4 @@
 -- `taken::ask::ask` meets its contract. Assumes nothing.
-use borrow.Author.Rules.{rules}
 use Rattle.taken.proofs.RowLaws.{asked_one_more}
 use Rattle.taken.proofs.ask.ask.Goals as goal
 

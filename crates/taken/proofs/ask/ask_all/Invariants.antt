@@ -1,11 +1,8 @@
 -- `taken::ask::ask_all` meets its contract. The loop's invariant: the words before p have been asked.
 -- Assumes nothing.
 use Prim.Native.Nat.{◌-◌, ◌≤◌}
-use native.Mathlib.Omega.{arith}
 use lib.ListN.{length}
-use borrow.Author.Rules.{rules}
 use Rattle.taken.specs.Row.{AskedBelow}
-use Rattle.taken.proofs.RowLaws.{asked_no_word}
 use Rattle.taken.proofs.ask.ask_all.Given as goal
 
 abbrev pub invariant-loop-p : goal.invariant-loop-p

@@ -1,10 +1,7 @@
 -- `taken::ask::ask_rest` meets its contract. The loop's invariant: the words before p have been asked.
 -- Assumes nothing.
 use Prim.Native.Nat.{◌-◌, ◌≤◌}
-use native.Mathlib.Omega.{arith}
-use mathlib.Core.Path.{◌≡◌}
 use lib.ListN.{length}
-use borrow.Author.Rules.{rules}
 use Rattle.taken.specs.Row.{AskedBelow}
 use Rattle.taken.proofs.ask.ask_rest.Given as goal
 

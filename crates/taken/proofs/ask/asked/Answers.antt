@@ -1,7 +1,6 @@
 -- `taken::ask::asked` meets its contract. Assumes nothing.
 use Prim.Native.Nat.{ℕ, ◌+◌, ◌/◌, ◌%◌, ◌^◌}
 use mathlib.Core.Path.{ap, ◌∙◌}
-use borrow.Author.Rules.{rules}
 use Rattle.model.specs.Word.{word, bit}
 use Rattle.taken.proofs.RowLaws.{asked_is}
 use Rattle.taken.proofs.ask.asked.Goals as goal

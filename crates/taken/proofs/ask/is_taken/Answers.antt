@@ -1,7 +1,6 @@
 -- `taken::ask::is_taken` meets its contract. Assumes nothing.
 use mathlib.Core.Path.{sym, ap, ◌∙◌}
 use mathlib.Core.Bool.{Bool, not, ◌&&◌}
-use borrow.Author.Rules.{rules}
 use borrow.Author.Tests.{eq-eqb, ne_eqb}
 use Rattle.taken.specs.Row.{row_none_or_taken}
 use Rattle.taken.proofs.ask.is_taken.Goals as goal

@@ -1,6 +1,6 @@
 -- `taken::ask::taken_count` meets its contract. The loop's invariant: the ones of the first o words are counted.
 -- Assumes nothing.
-use Prim.Native.Nat.{ℕ, ◌+◌, ◌-◌, ◌*◌, ◌≤◌}
+use Prim.Native.Nat.{ℕ, ◌+◌, ◌-◌, ◌*◌}
 use native.Mathlib.Omega.{arith}
 use mathlib.Core.Path.{◌≡◌, ap, ap₂, sym, ◌∙◌}
 use borrow.Author.Rules.{rules}

@@ -1,14 +1,9 @@
 -- `taken::ask::taken_count` meets its contract. The loop's invariant: the ones of the first o words are counted.
 -- Assumes nothing.
-use Prim.Native.Nat.{ℕ, ◌+◌, ◌-◌, ◌*◌, ◌≤◌}
-use native.Mathlib.Omega.{arith}
-use mathlib.Core.Path.{◌≡◌, ap, ap₂, sym, ◌∙◌}
-use borrow.Author.Rules.{rules}
+use Prim.Native.Nat.{◌+◌, ◌-◌, ◌*◌, ◌≤◌}
+use mathlib.Core.Path.{◌≡◌}
 use Rattle.model.specs.Below.{count_below}
-use Rattle.model.specs.Word.{word, bit}
-use Rattle.laws.proofs.Below.{count_below_le}
 use Rattle.arena.specs.Rows.{row_bit}
-use Rattle.taken.proofs.RowLaws.{count_word}
 use Rattle.taken.proofs.ask.taken_count.Given as goal
 
 abbrev pub invariant-loop-o : goal.invariant-loop-o

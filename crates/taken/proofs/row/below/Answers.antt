@@ -2,7 +2,6 @@
 -- Assumes nothing.
 use Prim.Native.Nat.{◌*◌}
 use native.Mathlib.Omega.{arith}
-use borrow.Author.Rules.{rules}
 use Rattle.taken.proofs.RowLaws.{none_below, all_below, some_below}
 use Rattle.taken.proofs.row.below.Goals as goal
 

@@ -1,11 +1,10 @@
 -- `taken::row::fill_row` meets its contract. The loop's invariant: the words of the first s segments are filled.
 -- Assumes nothing.
-use Prim.Native.Nat.{◌+◌, ◌-◌, ◌*◌, ◌≤◌}
+use Prim.Native.Nat.{◌+◌, ◌*◌}
 use native.Mathlib.Omega.{arith}
 use mathlib.Core.Path.{◌≡◌}
 use borrow.Author.Rules.{rules}
 use Rattle.model.specs.View.{segments}
-use Rattle.taken.specs.Row.{Filled}
 use Rattle.taken.proofs.RowLaws.{blank_filled, filled_taken}
 use Rattle.taken.proofs.row.fill_row.Goals as goal
 
@@ -21,4 +20,4 @@ loop-s-preserved c =
 pub returns : goal.returns
 returns c =
     let all : 64 * c.loop-s.s ≡ 64 * segments c.args.arena.now = omega arith in
-    filled_taken c.requires.0.few (rw all at c.loop-s.invariant.2)
+    filled_taken c.requires.classed.few (rw all at c.loop-s.invariant.2)

@@ -1,12 +1,9 @@
 -- `taken::row::fill_row` meets its contract. The loop's invariant: the words of the first s segments are filled.
 -- Assumes nothing.
-use Prim.Native.Nat.{◌+◌, ◌-◌, ◌*◌, ◌≤◌}
-use native.Mathlib.Omega.{arith}
+use Prim.Native.Nat.{◌-◌, ◌*◌, ◌≤◌}
 use mathlib.Core.Path.{◌≡◌}
-use borrow.Author.Rules.{rules}
 use Rattle.model.specs.View.{segments}
 use Rattle.taken.specs.Row.{Filled}
-use Rattle.taken.proofs.RowLaws.{blank_filled, filled_taken}
 use Rattle.taken.proofs.row.fill_row.Given as goal
 
 abbrev pub invariant-loop-s : goal.invariant-loop-s

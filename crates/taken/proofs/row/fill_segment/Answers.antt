@@ -6,7 +6,6 @@ use mathlib.Core.Path.{◌≡◌, ap, ap₂, ◌∙◌, sym}
 use mathlib.Core.Bool.{true, false}
 use mathlib.Core.List.{List}
 use lib.ListN.{length}
-use borrow.Author.Rules.{rules}
 use borrow.Author.Tests.{eq-eqb, ne_eqb}
 use Rattle.model.specs.Word.{word}
 use Rattle.model.specs.Class.{is_class, blocks}

@@ -1,12 +1,12 @@
 -- `taken::row::fill_words` meets its contract. The loop's invariant: the first j words are filled.
 -- Assumes nothing.
-use Prim.Native.Nat.{ℕ, ◌+◌, ◌≤◌, ◌-◌}
+use Prim.Native.Nat.{ℕ, ◌+◌}
 use native.Mathlib.Omega.{arith}
 use mathlib.Core.Path.{◌≡◌, ap, ◌∙◌}
 use borrow.Author.Rules.{rules}
 use Rattle.model.specs.Word.{word}
 use Rattle.model.specs.Class.{words_for}
-use Rattle.taken.specs.Row.{taken_word, Segment}
+use Rattle.taken.specs.Row.{taken_word}
 use Rattle.taken.proofs.RowLaws.{segment_step}
 use Rattle.taken.proofs.row.fill_words.Goals as goal
 

@@ -1,13 +1,9 @@
 -- `taken::row::fill_words` meets its contract. The loop's invariant: the first j words are filled.
 -- Assumes nothing.
-use Prim.Native.Nat.{ℕ, ◌+◌, ◌≤◌, ◌-◌}
-use native.Mathlib.Omega.{arith}
-use mathlib.Core.Path.{◌≡◌, ap, ◌∙◌}
-use borrow.Author.Rules.{rules}
-use Rattle.model.specs.Word.{word}
+use Prim.Native.Nat.{◌≤◌, ◌-◌}
+use mathlib.Core.Path.{◌≡◌}
 use Rattle.model.specs.Class.{words_for}
-use Rattle.taken.specs.Row.{taken_word, Segment}
-use Rattle.taken.proofs.RowLaws.{segment_step}
+use Rattle.taken.specs.Row.{Segment}
 use Rattle.taken.proofs.row.fill_words.Given as goal
 
 abbrev pub invariant-loop-j : goal.invariant-loop-j

@@ -3,10 +3,9 @@
 use Prim.Native.Nat.{ℕ}
 use native.Mathlib.Omega.{arith}
 use mathlib.Core.Path.{◌≡◌, ap, ◌∙◌}
-use borrow.Author.Rules.{rules}
 use Rattle.model.specs.Word.{word, field}
 use Rattle.model.specs.Layout.{place_at}
-use Rattle.model.specs.View.{place_rank, place_index, class, rank}
+use Rattle.model.specs.View.{class}
 use Rattle.taken.proofs.RowLaws.{limit_before, limit_at, limit_behind}
 use Rattle.taken.proofs.row.limit_of.Goals as goal
 use Rattle.taken.proofs.row.limit_of.Goals.{After-place_rank-first}
