@@ -3,7 +3,6 @@ use Prim.Native.Nat.{ℕ, ◌-◌}
 use mathlib.Core.Path.{◌≡◌}
 use native.Mathlib.Omega.{arith}
 use lib.Dec.{ltb}
-use borrow.Author.Rules.{rules}
 use borrow.Author.Tests.{ltb-true, lt-ltb, le-ltb}
 use Rattle.soundness.proofs.Tests.{same_test}
 use Rattle.trace.proofs.goes_on.Goals as goal

@@ -1,12 +1,8 @@
--- `trace::trace` meets its contract. The loop's invariant: the list so far is that of the order of demand 3 up to the head, and its later words are
--- as they were. The measure is what the head has left of the list.
--- Assumes nothing.
-use Prim.Native.Nat.{◌-◌, ◌≤◌}
-use mathlib.Core.Path.{◌≡◌, refl, sym}
+-- `trace::trace` meets its contract. Assumes nothing.
+use mathlib.Core.Path.{refl, sym}
 use native.Mathlib.Omega.{arith}
-use lib.ListN.{length}
 use Rattle.soundness.proofs.Facts.{sound_facts}
-use Rattle.trace.proofs.TraceLaws.{SoFar, trace_roots, trace_start, so_far_most, so_far_tail, so_far_turn, so_far_longer, so_far_on, so_far_done, went_on, ended}
+use Rattle.trace.proofs.TraceLaws.{trace_roots, trace_start, so_far_most, so_far_tail, so_far_turn, so_far_longer, so_far_on, so_far_done, went_on, ended}
 use Rattle.trace.proofs.trace.Goals as goal
 
 pub segments-n-requires : goal.segments-n-requires

@@ -4,7 +4,6 @@ use Prim.Native.Nat.{◌-◌}
 use native.Mathlib.Nat.{sub-zero}
 use native.Mathlib.Omega.{arith}
 use lib.ListN.{length-take}
-use borrow.Author.Rules.{rules}
 use Rattle.trace.proofs.TraceLaws.{turn_queue, turn_handles, turn_room, turn_done}
 use Rattle.trace.proofs.turn.Goals as goal
 
@@ -17,10 +16,10 @@ keep_new-kept-requires c = turn_handles c.requires c.gather-run.ensures
 pub copy-requires : goal.copy-requires
 copy-requires c =
     let k = c.keep_new-kept in
-    let room = turn_room c.requires c.gather-run.ensures k.auto.0 k.ensures in
-    omega (arith, room, length-take (k.result - 0) k.new.0)
+    let room = turn_room c.requires c.gather-run.ensures k.auto.row k.ensures in
+    omega (arith, room, length-take (k.result - 0) k.new.row)
 
 pub returns : goal.returns
 returns c =
     let k = c.keep_new-kept in
-    turn_done c.requires c.gather-run.ensures k.auto.0 k.ensures (rw sub-zero at c.copy.ensures)
+    turn_done c.requires c.gather-run.ensures k.auto.row k.ensures (rw sub-zero at c.copy.ensures)

@@ -1,9 +1,8 @@
--- `trace::gather::copy` meets its contract. The loop's invariant: the first j words have been copied. Assumes nothing.
-use Prim.Native.Nat.{◌-◌, ◌≤◌}
+-- `trace::gather::copy` meets its contract. Assumes nothing.
 use mathlib.Core.Path.{◌≡◌}
 use native.Mathlib.Omega.{arith}
 use lib.ListN.{length, length-set}
-use lib.Seq.{paste, paste-zero}
+use lib.Seq.{paste-zero}
 use borrow.Author.Rules.{rules}
 use Rattle.trace.proofs.GatherLaws.{paste_more, paste_all}
 use Rattle.trace.proofs.gather.copy.Goals as goal

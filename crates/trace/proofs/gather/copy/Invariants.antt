@@ -1,11 +1,8 @@
--- `trace::gather::copy` meets its contract. The loop's invariant: the first j words have been copied. Assumes nothing.
+-- The invariant of `trace::gather::copy`'s loop: the first j words have been copied. Assumes nothing.
 use Prim.Native.Nat.{◌-◌, ◌≤◌}
 use mathlib.Core.Path.{◌≡◌}
-use native.Mathlib.Omega.{arith}
-use lib.ListN.{length, length-set}
-use lib.Seq.{paste, paste-zero}
-use borrow.Author.Rules.{rules}
-use Rattle.trace.proofs.GatherLaws.{paste_more, paste_all}
+use lib.ListN.{length}
+use lib.Seq.{paste}
 use Rattle.trace.proofs.gather.copy.Given as goal
 
 abbrev pub invariant-loop-j : goal.invariant-loop-j

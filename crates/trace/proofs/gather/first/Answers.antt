@@ -1,11 +1,7 @@
--- `trace::gather::first` meets its contract. The loop's invariant: the first f references, if there are as many, have been copied.
--- Assumes nothing.
-use Prim.Native.Nat.{◌-◌, ◌≤◌}
-use mathlib.Core.Path.{◌≡◌, refl}
+-- `trace::gather::first` meets its contract. Assumes nothing.
+use mathlib.Core.Path.{refl}
 use native.Mathlib.Omega.{arith}
-use lib.ListN.{length, length-set}
-use borrow.Author.Rules.{rules}
-use Rattle.trace.specs.Gather.{First}
+use lib.ListN.{length-set}
 use Rattle.trace.proofs.GatherLaws.{first_none, first_more}
 use Rattle.trace.proofs.gather.first.Goals as goal
 

@@ -1,12 +1,8 @@
--- `trace::gather::first` meets its contract. The loop's invariant: the first f references, if there are as many, have been copied.
--- Assumes nothing.
+-- The invariant of `trace::gather::first`'s loop: the first f references, if there are as many, have been copied. Assumes nothing.
 use Prim.Native.Nat.{◌-◌, ◌≤◌}
-use mathlib.Core.Path.{◌≡◌, refl}
-use native.Mathlib.Omega.{arith}
-use lib.ListN.{length, length-set}
-use borrow.Author.Rules.{rules}
+use mathlib.Core.Path.{◌≡◌}
+use lib.ListN.{length}
 use Rattle.trace.specs.Gather.{First}
-use Rattle.trace.proofs.GatherLaws.{first_none, first_more}
 use Rattle.trace.proofs.gather.first.Given as goal
 
 abbrev pub invariant-loop-f : goal.invariant-loop-f

@@ -1,12 +1,7 @@
--- `trace::gather::gather` meets its contract. The loop's invariant: the row begins with the references of the blocks taken off, at most 1,023 of each.
--- Assumes nothing.
-use Prim.Native.Nat.{◌-◌, ◌*◌, ◌≤◌}
-use mathlib.Core.Path.{refl, ◌≡◌}
+-- `trace::gather::gather` meets its contract. Assumes nothing.
+use mathlib.Core.Path.{refl}
 use native.Mathlib.Omega.{arith}
-use lib.ListN.{length, take}
-use borrow.Author.Rules.{rules}
 use Rattle.model.specs.Below.{lists_below}
-use Rattle.trace.specs.Gather.{references_of_all}
 use Rattle.trace.proofs.GatherLaws.{one_more}
 use Rattle.trace.proofs.gather.gather.Goals as goal
 
@@ -32,7 +27,7 @@ loop-blocks-preserved c =
       omega arith,
       omega arith,
       omega arith,
-      one_more c.args.arena.now c.args.queue.now l.blocks l.end g.result l.row g.new.1.1.1.0 l.invariant.4 g.ensures.0,
+      one_more c.args.arena.now c.args.queue.now l.blocks l.end g.result l.row g.new.row l.invariant.4 g.ensures.0,
     )
 
 pub returns : goal.returns

@@ -1,13 +1,9 @@
--- `trace::gather::gather` meets its contract. The loop's invariant: the row begins with the references of the blocks taken off, at most 1,023 of each.
+-- The invariant of `trace::gather::gather`'s loop: the row begins with the references of the blocks taken off, at most 1,023 of each.
 -- Assumes nothing.
 use Prim.Native.Nat.{◌-◌, ◌*◌, ◌≤◌}
-use mathlib.Core.Path.{refl, ◌≡◌}
-use native.Mathlib.Omega.{arith}
+use mathlib.Core.Path.{◌≡◌}
 use lib.ListN.{length, take}
-use borrow.Author.Rules.{rules}
-use Rattle.model.specs.Below.{lists_below}
 use Rattle.trace.specs.Gather.{references_of_all}
-use Rattle.trace.proofs.GatherLaws.{one_more}
 use Rattle.trace.proofs.gather.gather.Given as goal
 
 abbrev pub invariant-loop-blocks : goal.invariant-loop-blocks

@@ -4,7 +4,6 @@ use mathlib.Core.Path.{ap}
 use native.Mathlib.Omega.{arith}
 use lib.Bits.{bit_and, and_le_r}
 use lib.ListN.{length}
-use borrow.Author.Rules.{rules}
 use Rattle.model.specs.Word.{word}
 use Rattle.trace.proofs.gather.reference.Goals as goal
 use Rattle.trace.proofs.gather.reference.Goals.{Start}

@@ -1,13 +1,10 @@
--- `trace::list::keep_new` meets its contract. The loop's invariant: of the first k words those that are put on are kept, and the words from k on are as
--- they were.
--- Assumes nothing.
-use Prim.Native.Nat.{ℕ, ◌-◌, ◌≤◌}
+-- `trace::list::keep_new` meets its contract. Assumes nothing.
+use Prim.Native.Nat.{ℕ}
 use mathlib.Core.Path.{◌≡◌, refl, ◌∙◌, subst}
 use native.Mathlib.Omega.{arith}
 use native.Mathlib.Nat.{le_refl}
-use lib.ListN.{length, get_or, length-set}
+use lib.ListN.{get_or, length-set}
 use lib.Seq.{get_or-set_other}
-use borrow.Author.Rules.{rules}
 use Rattle.trace.specs.List.{Kept}
 use Rattle.trace.proofs.ListLaws.{kept_none, kept_more}
 use Rattle.trace.proofs.list.keep_new.Goals as goal
@@ -30,9 +27,9 @@ loop-k-preserved c =
       omega arith,
       simp length-set l.invariant.1,
       omega arith,
-      λ j v. get_or-set_other l.row l.auto j h 0 (omega (arith, l.invariant.4.within)) ∙ l.invariant.3 j (omega arith),
+      λ j v. get_or-set_other l.row l.kept j h 0 (omega (arith, l.invariant.4.within)) ∙ l.invariant.3 j (omega arith),
       rw c.wide-kept.ensures
-          (kept_more a.row.now l.k a.marks.now l.auto l.row l.marks h m.result m.new.0 l.invariant.4 (omega arith)
+          (kept_more a.row.now l.k a.marks.now l.kept l.row l.marks h m.result m.new.marks l.invariant.4 (omega arith)
           (omega (arith, l.invariant.4.within)) (l.invariant.3 l.k (le_refl l.k)) m.ensures),
     )
 
@@ -40,4 +37,4 @@ pub returns : goal.returns
 returns c =
     let l = c.loop-k in
     let all : l.k ≡ c.args.end = omega arith in
-    subst (λ (k : ℕ). Kept c.args.row.now k c.args.marks.now l.auto l.row l.marks) all l.invariant.4
+    subst (λ (k : ℕ). Kept c.args.row.now k c.args.marks.now l.kept l.row l.marks) all l.invariant.4

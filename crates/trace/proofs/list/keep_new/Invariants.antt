@@ -1,15 +1,9 @@
--- `trace::list::keep_new` meets its contract. The loop's invariant: of the first k words those that are put on are kept, and the words from k on are as
--- they were.
+-- The invariant of `trace::list::keep_new`'s loop: of the first k words those that are put on are kept, and the words from k on are as they were.
 -- Assumes nothing.
 use Prim.Native.Nat.{ℕ, ◌-◌, ◌≤◌}
-use mathlib.Core.Path.{◌≡◌, refl, ◌∙◌, subst}
-use native.Mathlib.Omega.{arith}
-use native.Mathlib.Nat.{le_refl}
-use lib.ListN.{length, get_or, length-set}
-use lib.Seq.{get_or-set_other}
-use borrow.Author.Rules.{rules}
+use mathlib.Core.Path.{◌≡◌}
+use lib.ListN.{length, get_or}
 use Rattle.trace.specs.List.{Kept}
-use Rattle.trace.proofs.ListLaws.{kept_none, kept_more}
 use Rattle.trace.proofs.list.keep_new.Given as goal
 
 abbrev pub invariant-loop-k : goal.invariant-loop-k

@@ -1,11 +1,9 @@
--- `trace::list::put_roots` meets its contract. The loop's invariant: the first p roots have been put on an empty list. Assumes nothing.
-use Prim.Native.Nat.{ℕ, ◌+◌, ◌-◌, ◌≤◌}
-use mathlib.Core.Path.{◌≡◌, refl, subst}
+-- `trace::list::put_roots` meets its contract. Assumes nothing.
+use Prim.Native.Nat.{ℕ, ◌+◌}
+use mathlib.Core.Path.{refl, subst}
 use mathlib.Core.List.{List, []}
 use native.Mathlib.Omega.{arith}
-use lib.ListN.{length, take}
 use lib.Seq.{take_all}
-use borrow.Author.Rules.{rules}
 use Rattle.ways.proofs.Put.{put_all}
 use Rattle.trace.specs.List.{On}
 use Rattle.trace.proofs.ListLaws.{roots_none, root_room, root_on}
@@ -14,7 +12,7 @@ use Rattle.trace.proofs.list.put_roots.Goals as goal
 pub loop-p-init : goal.loop-p-init
 loop-p-init c =
     let a = c.args in
-    (omega arith, refl, refl, roots_none a.n a.roots.now a.list.now c.clear.new.0 c.clear.ensures)
+    (omega arith, refl, refl, roots_none a.n a.roots.now a.list.now c.clear.new.marks c.clear.ensures)
 
 pub put_root-c-requires : goal.put_root-c-requires
 put_root-c-requires c =

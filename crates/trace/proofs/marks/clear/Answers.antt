@@ -1,9 +1,8 @@
--- `trace::marks::clear` meets its contract. The loop's invariant: the first j words are 0, and the rest is as it was. Assumes nothing.
-use Prim.Native.Nat.{◌+◌, ◌*◌, ◌-◌, ◌≤◌}
+-- `trace::marks::clear` meets its contract. Assumes nothing.
+use Prim.Native.Nat.{◌+◌, ◌*◌}
 use mathlib.Core.Path.{◌≡◌}
-use mathlib.Core.List.{◌++◌}
 use native.Mathlib.Omega.{arith}
-use lib.ListN.{replicate, drop, length, length-set}
+use lib.ListN.{drop, length-set}
 use borrow.Author.Fill.{fill_more}
 use borrow.Author.Rules.{rules}
 use Rattle.trace.proofs.MarkLaws.{cleared}

@@ -1,12 +1,8 @@
--- `trace::marks::clear` meets its contract. The loop's invariant: the first j words are 0, and the rest is as it was. Assumes nothing.
-use Prim.Native.Nat.{◌+◌, ◌*◌, ◌-◌, ◌≤◌}
+-- The invariant of `trace::marks::clear`'s loop: the first j words are 0, and the rest is as it was. Assumes nothing.
+use Prim.Native.Nat.{◌-◌, ◌≤◌}
 use mathlib.Core.Path.{◌≡◌}
 use mathlib.Core.List.{◌++◌}
-use native.Mathlib.Omega.{arith}
-use lib.ListN.{replicate, drop, length, length-set}
-use borrow.Author.Fill.{fill_more}
-use borrow.Author.Rules.{rules}
-use Rattle.trace.proofs.MarkLaws.{cleared}
+use lib.ListN.{replicate, drop, length}
 use Rattle.trace.proofs.marks.clear.Given as goal
 
 abbrev pub invariant-loop-j : goal.invariant-loop-j

@@ -1,7 +1,6 @@
 -- `trace::marks::mark` meets its contract: one word is stored, with the bit of the handle set. Assumes nothing.
 use native.Mathlib.Omega.{arith}
 use lib.ListN.{length-set}
-use borrow.Author.Rules.{rules}
 use Rattle.trace.proofs.MarkLaws.{mark_stored}
 use Rattle.trace.proofs.marks.mark.Goals as goal
 
