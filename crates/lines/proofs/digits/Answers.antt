@@ -1,10 +1,6 @@
 -- `lines::digits` meets its contract: what has been passed is digits, and the loop is left at the first byte that is none.
 -- Assumes nothing.
-use Prim.Native.Nat.{◌-◌, ◌≤◌}
-use mathlib.Core.Path.{◌≡◌}
-use mathlib.Core.Bool.{true}
 use native.Mathlib.Omega.{arith}
-use lib.ListN.{length, take}
 use borrow.Author.Rules.{rules}
 use Rattle.lines.specs.Line.{all_digits}
 use Rattle.lines.proofs.FieldLaws.{digits_more, low_is_none, high_is_none}

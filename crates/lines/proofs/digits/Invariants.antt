@@ -3,11 +3,8 @@
 use Prim.Native.Nat.{◌-◌, ◌≤◌}
 use mathlib.Core.Path.{◌≡◌}
 use mathlib.Core.Bool.{true}
-use native.Mathlib.Omega.{arith}
 use lib.ListN.{length, take}
-use borrow.Author.Rules.{rules}
 use Rattle.lines.specs.Line.{all_digits}
-use Rattle.lines.proofs.FieldLaws.{digits_more, low_is_none, high_is_none}
 use Rattle.lines.proofs.digits.Given as goal
 
 abbrev pub invariant-loop-at : goal.invariant-loop-at

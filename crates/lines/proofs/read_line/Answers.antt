@@ -6,36 +6,40 @@ use Rattle.lines.proofs.MeaningLaws.{empty_means, long_means, few_means, many_me
 use Rattle.lines.proofs.read_line.Goals as goal
 
 pub returns-then-text-eq0 : goal.returns-then-text-eq0
-returns-then-text-eq0 c = (empty_means c.args.text.now c.if-text-eq0.true, search rules)
+returns-then-text-eq0 c = record { means = empty_means c.args.text.now c.if-text-eq0.true; within = search rules }
 
 pub returns-then-text-gt80 : goal.returns-then-text-gt80
-returns-then-text-gt80 c = (long_means c.args.text.now c.if-text-gt80.true, search rules)
+returns-then-text-gt80 c = record { means = long_means c.args.text.now c.if-text-gt80.true; within = search rules }
 
 pub returns-then-count-gt16 : goal.returns-then-count-gt16
 returns-then-count-gt16 c =
-    let numbers = c.read_numbers-count in (
-      many_means
+    let numbers = c.read_numbers-count in
+    record {
+      means =
+          many_means
           c.args.text.now
           c.if-text-eq0.false
           c.if-text-gt80.false
-          numbers.new.1.0
+          numbers.new.row
           numbers.result
           numbers.ensures
-          c.if-count-gt16.true,
-      search rules,
-    )
+          c.if-count-gt16.true;
+      within = search rules;
+    }
 
 pub returns : goal.returns
 returns c =
-    let numbers = c.read_numbers-count in (
-      c.order_of.ensures.0
+    let numbers = c.read_numbers-count in
+    record {
+      means =
+          c.order_of.ensures.means
           ∙ few_means
           c.args.text.now
           c.if-text-eq0.false
           c.if-text-gt80.false
-          numbers.new.1.0
+          numbers.new.row
           numbers.result
           numbers.ensures
-          c.if-count-gt16.false,
-      c.order_of.ensures.1,
-    )
+          c.if-count-gt16.false;
+      within = c.order_of.ensures.within;
+    }

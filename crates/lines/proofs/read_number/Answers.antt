@@ -3,7 +3,6 @@
 -- Assumes nothing.
 use mathlib.Core.Path.{sym}
 use lib.Seq.{length-take-le}
-use borrow.Author.Rules.{rules}
 use Rattle.lines.proofs.NumberLaws.{other_is_bad, none_behind, large_behind, found_behind}
 use Rattle.lines.proofs.read_number.Goals as goal
 

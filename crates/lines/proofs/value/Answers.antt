@@ -1,11 +1,10 @@
 -- `lines::value` meets its contract: the number is the value of the digits passed, cut off at 2^32.
 -- Assumes nothing.
-use Prim.Native.Nat.{ℕ, ◌-◌, ◌≤◌, min}
-use mathlib.Core.Path.{◌≡◌, ap, ◌∙◌}
+use Prim.Native.Nat.{ℕ, min}
+use mathlib.Core.Path.{ap, ◌∙◌}
 use mathlib.Core.List.{List}
 use native.Mathlib.Omega.{arith}
 use lib.Seq.{take_all}
-use lib.ListN.{length, take}
 use borrow.Author.Rules.{rules}
 use Rattle.lines.specs.Line.{value, value_after}
 use Rattle.lines.proofs.FieldLaws.{digit_at, value_more}
