@@ -14,11 +14,11 @@ returns-then-not-records_right c = record {
 
 pub fill_row-requires : goal.fill_row-requires
 fill_row-requires c =
-    (classed _ (sym c.records_right.ensures ∙ not-false _ c.if-not-records_right.false-raw), c.requires)
+    record { classed = classed _ (sym c.records_right.ensures ∙ not-false _ c.if-not-records_right.false-raw); zero_row = c.requires }
 
 pub taken_right-requires : goal.taken_right-requires
 taken_right-requires c =
-    (classed _ (sym c.records_right.ensures ∙ not-false _ c.if-not-records_right.false-raw), c.fill_row.ensures)
+    record { classed = classed _ (sym c.records_right.ensures ∙ not-false _ c.if-not-records_right.false-raw); taken_row = c.fill_row.ensures }
 
 pub returns : goal.returns
 returns c = record {
