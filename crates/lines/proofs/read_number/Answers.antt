@@ -2,6 +2,7 @@
 -- else is a number in front of it.
 -- Assumes nothing.
 use mathlib.Core.Path.{sym}
+use native.Mathlib.Omega.{arith}
 use lib.Seq.{length-take-le}
 use Rattle.lines.proofs.NumberLaws.{other_is_bad, none_behind, large_behind, found_behind}
 use Rattle.lines.proofs.read_number.Goals as goal
@@ -12,7 +13,7 @@ returns-then-text-ne32 c = other_is_bad c.args.text.now c.requires c.if-text-ne3
 pub returns-then-n-eq0 : goal.returns-then-n-eq0
 returns-then-n-eq0 c =
     let digits = c.digits-n in
-    none_behind c.args.text.now c.requires c.if-text-ne32.false digits.result digits.ensures c.if-n-eq0.true
+    none_behind c.args.text.now c.requires c.if-text-ne32.false digits.result digits.ensures (omega arith)
 
 pub slice_bounds-value-end : goal.slice_bounds-value-end
 slice_bounds-value-end c = sym (length-take-le c.digits-n.result _ c.digits-n.ensures.within)
@@ -43,5 +44,5 @@ returns c =
     digits.ensures
     value.result
     value.ensures
-    c.if-n-eq0.false
+    (λ e. omega arith)
     c.if-v-gt4294967295.false
