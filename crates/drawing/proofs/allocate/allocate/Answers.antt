@@ -28,4 +28,4 @@ pub returns-then-n-r : goal.returns-then-n-r
 returns-then-n-r c = refused _ 3 _ _ _ (allocate_more_references _ _ _ (is_sound (goal.at.returns-then-n-r c).Else-not-judge) c.if-n-r.true) refl
 
 pub allocate_sound-requires : goal.allocate_sound-requires
-allocate_sound-requires c = record { is_sound = is_sound (goal.at.allocate_sound-requires c).Else-not-judge.before; small = search rules; within = search rules }
+allocate_sound-requires c = record { is_sound = is_sound (goal.at.allocate_sound-requires c).Else-not-judge; small = search rules; within = search rules }

@@ -8,34 +8,26 @@ use Rattle.drawing.proofs.allocate.allocate_sound.Goals.{After-find}
 searched : (c : After-find)
     → Searched c.args.arena.now c.args.n c.args.r
     c.class_of-class.result c.find.result
-searched c = record { allowed = c.Start.requires; class = c.class_of-class.ensures; finds = c.find.ensures }
+searched c = record { allowed = c.requires; class = c.class_of-class.ensures; finds = c.find.ensures }
 
 pub find-requires : goal.find-requires
 find-requires c = search_asked c.requires c.class_of-class.ensures
 
-pub give-requires : goal.give-requires
-give-requires c =
-    give_asked (searched (goal.at.give-requires c).After-find) c.spot-1.given.1
-
 pub given-requires : goal.given-requires
 given-requires c =
-    handle_asked (searched (goal.at.given-requires c).After-find) c.spot-1.given.1
-
-pub give_joining-requires : goal.give_joining-requires
-give_joining-requires c =
-    joining_asked (searched (goal.at.give_joining-requires c).After-find) c.spot-in-Joins-1.given.1
+    handle_asked (searched (goal.at.given-requires c).After-find) c.in-Here.is
 
 pub given-requires-in-Joins : goal.given-requires-in-Joins
 given-requires-in-Joins c =
-    joining_handle_asked (searched (goal.at.given-requires-in-Joins c).After-find) c.spot-in-Joins-1.given.1
+    joining_handle_asked (searched (goal.at.given-requires-in-Joins c).After-find) c.in-Joins.is
 
 pub returns-in-Here : goal.returns-in-Here
 returns-in-Here c =
-    given_here (searched (goal.at.returns-in-Here c).After-find) c.spot-1.given.1 _ c.given.result c.given.ensures c.give.ensures
+    given_here (searched (goal.at.returns-in-Here c).After-find) c.in-Here.is _ c.given.result c.given.ensures c.give.ensures
 
 pub returns-in-Joins : goal.returns-in-Joins
 returns-in-Joins c =
-    given_joining (searched (goal.at.returns-in-Joins c).After-find) c.spot-in-Joins-1.given.1 _ c.given-in-Joins.result c.given-in-Joins.ensures c.give_joining.ensures
+    given_joining (searched (goal.at.returns-in-Joins c).After-find) c.in-Joins.is _ c.given-in-Joins.result c.given-in-Joins.ensures c.give_joining.ensures
 
 pub returns-in-NoRoom : goal.returns-in-NoRoom
-returns-in-NoRoom c = none_given (searched (goal.at.returns-in-NoRoom c).After-find) _ c.enum_told-1.given.1
+returns-in-NoRoom c = none_given (searched (goal.at.returns-in-NoRoom c).After-find) _ c.in-NoRoom.is

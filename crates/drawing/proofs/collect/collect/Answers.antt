@@ -22,9 +22,9 @@ list c = c.args.list.now
 number : (c : After-refusal-e) → c.refusal-e.result.number ≡ collect_refusal (arena c) (roots c) (list c)
 number c = c.refusal-e.ensures.number (list c) refl
 
-not-refused : (c : Else-e-eq9) → collect_refusal (arena c.After-refusal-e) (roots c.After-refusal-e) (list c.After-refusal-e) ≡ 0
-not-refused c =
-    let e = number c.After-refusal-e in
+not_refused : (c : Else-e-eq9) → collect_refusal c.args.arena.now c.args.roots.now c.args.list.now ≡ 0
+not_refused c =
+    let e = c.refusal-e.ensures.number c.args.list.now refl in
     collect_else _ _ _ (λ two. c.if-e-eq2.false (e ∙ two)) (λ eight. c.if-e-eq8.false (e ∙ eight)) (λ nine. c.if-e-eq9.false (e ∙ nine))
 
 pub returns-then-e-eq2 : goal.returns-then-e-eq2
@@ -38,8 +38,8 @@ returns-then-e-eq9 c = collect_refused _ _ _ _ 9 (sym (number (goal.at.returns-t
 
 pub collect_sound-requires : goal.collect_sound-requires
 collect_sound-requires c =
-    let granted = not-refused (goal.at.collect_sound-requires c).Else-e-eq9 in
+    let granted = not_refused (goal.at.collect_sound-requires c).Else-e-eq9 in
     traceable _ _ _ _ _ granted refl (c.refusal-e.ensures.counted (number (goal.at.collect_sound-requires c).After-refusal-e ∙ granted))
 
 pub returns : goal.returns
-returns c = collect_live _ _ _ _ _ _ (not-refused (goal.at.returns c).Else-e-eq9) c.collect_sound.ensures
+returns c = collect_live _ _ _ _ _ _ (not_refused (goal.at.returns c).Else-e-eq9) c.collect_sound.ensures

@@ -18,28 +18,23 @@ use Rattle.drawing.proofs.collect.refusal.Goals as goal
 use Rattle.drawing.proofs.collect.refusal.Goals.{After-all_none_or_taken, After-wide-taken, Else-not-judge}
 
 -- ---- what is known once the judge has found the arena sound
-abbrev arena : Else-not-judge → List ℕ
-arena c = c.args.arena.now
+is_sound : (c : Else-not-judge) → sound c.args.arena.now ≡ true
+is_sound c = sym c.judge.ensures.answered ∙ not-false _ c.if-not-judge.false-raw
 
-abbrev roots : Else-not-judge → List ℕ
-roots c = c.args.roots.now
-
-is-sound : (c : Else-not-judge) → sound (arena c) ≡ true
-is-sound c = sym c.judge.ensures.answered ∙ not-false _ c.if-not-judge.false-raw
-
-sized : (c : Else-not-judge) → Sized (arena c)
-sized c = (sound_facts (arena c) (is-sound c)).size
-
-row-right : (c : Else-not-judge) → TakenRow (arena c) c.judge.new.1.0
-row-right c = c.judge.ensures.taken (not-false _ c.if-not-judge.false-raw)
+sized : (c : Else-not-judge) → Sized c.args.arena.now
+sized c = (sound_facts c.args.arena.now (is_sound c)).size
 
 -- and once the roots have been looked at
-roots-told : (c : After-all_none_or_taken) → c.all_none_or_taken.result ≡ roots_right (arena c.Else-not-judge) (roots c.Else-not-judge)
-roots-told c = c.all_none_or_taken.ensures ∙ roots_by_row (roots c.Else-not-judge) (row-right c.Else-not-judge)
+roots_told : (c : After-all_none_or_taken) → c.all_none_or_taken.result ≡ roots_right c.args.arena.now c.args.roots.now
+roots_told c =
+    let right : TakenRow c.args.arena.now c.judge.new.row = c.judge.ensures.taken (not-false _ c.if-not-judge.false-raw) in
+    c.all_none_or_taken.ensures ∙ roots_by_row c.args.roots.now right
 
 -- and the taken blocks counted
-all-counted : (c : After-wide-taken) → c.wide-taken.result ≡ taken_count (arena c.Else-not-judge)
-all-counted c = c.wide-taken.ensures ∙ c.taken_count.ensures ∙ row_count (row-right c.Else-not-judge) (sym c.segments.ensures)
+all_counted : (c : After-wide-taken) → c.wide-taken.result ≡ taken_count c.args.arena.now
+all_counted c =
+    let right : TakenRow c.args.arena.now c.judge.new.row = c.judge.ensures.taken (not-false _ c.if-not-judge.false-raw) in
+    c.wide-taken.ensures ∙ c.taken_count.ensures ∙ row_count right (sym c.segments.ensures)
 
 pub judge-requires : goal.judge-requires
 judge-requires c = zero_row
@@ -53,7 +48,7 @@ returns-then-not-judge c = record {
 pub returns-then-not-all_none_or_taken : goal.returns-then-not-all_none_or_taken
 returns-then-not-all_none_or_taken c = record {
   number = λ list _.
-      c.refused-then-not-all_none_or_taken.ensures ∙ sym (collect_bad_root _ _ list (is-sound (goal.at.returns-then-not-all_none_or_taken c).Else-not-judge) (sym (roots-told (goal.at.returns-then-not-all_none_or_taken c).After-all_none_or_taken) ∙ not-true _ c.if-not-all_none_or_taken.true-raw));
+      c.refused-then-not-all_none_or_taken.ensures ∙ sym (collect_bad_root _ _ list (is_sound (goal.at.returns-then-not-all_none_or_taken c).Else-not-judge) (sym (roots_told (goal.at.returns-then-not-all_none_or_taken c).After-all_none_or_taken) ∙ not-true _ c.if-not-all_none_or_taken.true-raw));
   counted = λ none. absurd (omega (arith, none, c.refused-then-not-all_none_or_taken.ensures));
 }
 
@@ -68,8 +63,8 @@ returns-then-room-taken c = record {
   number = λ list long.
       c.refused-then-room-taken.ensures
       ∙ sym
-      (collect_short_list _ _ list (is-sound (goal.at.returns-then-room-taken c).Else-not-judge) (sym (roots-told (goal.at.returns-then-room-taken c).After-all_none_or_taken) ∙ not-false _ c.if-not-all_none_or_taken.false-raw)
-      (omega (arith, long, c.if-room-taken.true, all-counted (goal.at.returns-then-room-taken c).After-wide-taken)));
+      (collect_short_list _ _ list (is_sound (goal.at.returns-then-room-taken c).Else-not-judge) (sym (roots_told (goal.at.returns-then-room-taken c).After-all_none_or_taken) ∙ not-false _ c.if-not-all_none_or_taken.false-raw)
+      (omega (arith, long, c.if-room-taken.true, all_counted (goal.at.returns-then-room-taken c).After-wide-taken)));
   counted = λ none. absurd (omega (arith, none, c.refused-then-room-taken.ensures));
 }
 
@@ -77,7 +72,7 @@ pub returns : goal.returns
 returns c = record {
   number = λ list long.
       sym
-      (collect_granted _ _ list (is-sound (goal.at.returns c).Else-not-judge) (sym (roots-told (goal.at.returns c).After-all_none_or_taken) ∙ not-false _ c.if-not-all_none_or_taken.false-raw)
-      (omega (arith, long, c.if-room-taken.false, all-counted (goal.at.returns c).After-wide-taken)));
-  counted = λ _. all-counted (goal.at.returns c).After-wide-taken.before;
+      (collect_granted _ _ list (is_sound (goal.at.returns c).Else-not-judge) (sym (roots_told (goal.at.returns c).After-all_none_or_taken) ∙ not-false _ c.if-not-all_none_or_taken.false-raw)
+      (omega (arith, long, c.if-room-taken.false, all_counted (goal.at.returns c).After-wide-taken)));
+  counted = λ _. all_counted (goal.at.returns c).After-wide-taken;
 }
