@@ -5,13 +5,13 @@ use borrow.Author.Rules.{rules}
 use Rattle.drawing_c.proofs.paper.allocated.Goals as goal
 
 pub returns-in-Block : goal.returns-in-Block
-returns-in-Block c = ap allocated_paper c.a-1.given.1 ∙ sym c.one.ensures
+returns-in-Block c = ap allocated_paper c.in-Block.is ∙ sym c.one.ensures
 
 pub returns-in-Unsound : goal.returns-in-Unsound
-returns-in-Unsound c = ap allocated_paper c.enum_told-1.given.1 ∙ sym c.one-in-Unsound.ensures
+returns-in-Unsound c = ap allocated_paper c.in-Unsound.is ∙ sym c.one-in-Unsound.ensures
 
 pub returns-in-BadShape : goal.returns-in-BadShape
-returns-in-BadShape c = ap allocated_paper c.enum_told-in-BadShape-1.given.1 ∙ sym c.one-in-BadShape.ensures
+returns-in-BadShape c = ap allocated_paper c.in-BadShape.is ∙ sym c.one-in-BadShape.ensures
 
 pub returns-in-NoRoom : goal.returns-in-NoRoom
-returns-in-NoRoom c = ap allocated_paper c.enum_told-in-NoRoom-1.given.1 ∙ sym c.one-in-NoRoom.ensures
+returns-in-NoRoom c = ap allocated_paper c.in-NoRoom.is ∙ sym c.one-in-NoRoom.ensures

@@ -5,13 +5,13 @@ use borrow.Author.Rules.{rules}
 use Rattle.drawing_c.proofs.paper.collected.Goals as goal
 
 pub returns-in-Live : goal.returns-in-Live
-returns-in-Live c = ap collected_paper c.a-1.given.1 ∙ sym c.one.ensures
+returns-in-Live c = ap collected_paper c.in-Live.is ∙ sym c.one.ensures
 
 pub returns-in-Unsound : goal.returns-in-Unsound
-returns-in-Unsound c = ap collected_paper c.enum_told-1.given.1 ∙ sym c.one-in-Unsound.ensures
+returns-in-Unsound c = ap collected_paper c.in-Unsound.is ∙ sym c.one-in-Unsound.ensures
 
 pub returns-in-BadRoot : goal.returns-in-BadRoot
-returns-in-BadRoot c = ap collected_paper c.enum_told-in-BadRoot-1.given.1 ∙ sym c.one-in-BadRoot.ensures
+returns-in-BadRoot c = ap collected_paper c.in-BadRoot.is ∙ sym c.one-in-BadRoot.ensures
 
 pub returns-in-ShortList : goal.returns-in-ShortList
-returns-in-ShortList c = ap collected_paper c.enum_told-in-ShortList-1.given.1 ∙ sym c.one-in-ShortList.ensures
+returns-in-ShortList c = ap collected_paper c.in-ShortList.is ∙ sym c.one-in-ShortList.ensures

@@ -5,13 +5,13 @@ use borrow.Author.Rules.{rules}
 use Rattle.drawing_c.proofs.paper.read.Goals as goal
 
 pub returns-in-Value : goal.returns-in-Value
-returns-in-Value c = ap read_paper c.a-1.given.1 ∙ sym c.one.ensures
+returns-in-Value c = ap read_paper c.in-Value.is ∙ sym c.one.ensures
 
 pub returns-in-Unsound : goal.returns-in-Unsound
-returns-in-Unsound c = ap read_paper c.enum_told-1.given.1 ∙ sym c.one-in-Unsound.ensures
+returns-in-Unsound c = ap read_paper c.in-Unsound.is ∙ sym c.one-in-Unsound.ensures
 
 pub returns-in-NoBlock : goal.returns-in-NoBlock
-returns-in-NoBlock c = ap read_paper c.enum_told-in-NoBlock-1.given.1 ∙ sym c.one-in-NoBlock.ensures
+returns-in-NoBlock c = ap read_paper c.in-NoBlock.is ∙ sym c.one-in-NoBlock.ensures
 
 pub returns-in-NoField : goal.returns-in-NoField
-returns-in-NoField c = ap read_paper c.enum_told-in-NoField-1.given.1 ∙ sym c.one-in-NoField.ensures
+returns-in-NoField c = ap read_paper c.in-NoField.is ∙ sym c.one-in-NoField.ensures

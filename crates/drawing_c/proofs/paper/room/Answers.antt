@@ -5,10 +5,10 @@ use borrow.Author.Rules.{rules}
 use Rattle.drawing_c.proofs.paper.room.Goals as goal
 
 pub returns-in-Blocks : goal.returns-in-Blocks
-returns-in-Blocks c = ap room_paper c.a-1.given.1 ∙ sym c.one.ensures
+returns-in-Blocks c = ap room_paper c.in-Blocks.is ∙ sym c.one.ensures
 
 pub returns-in-Unsound : goal.returns-in-Unsound
-returns-in-Unsound c = ap room_paper c.enum_told-1.given.1 ∙ sym c.one-in-Unsound.ensures
+returns-in-Unsound c = ap room_paper c.in-Unsound.is ∙ sym c.one-in-Unsound.ensures
 
 pub returns-in-BadShape : goal.returns-in-BadShape
-returns-in-BadShape c = ap room_paper c.enum_told-in-BadShape-1.given.1 ∙ sym c.one-in-BadShape.ensures
+returns-in-BadShape c = ap room_paper c.in-BadShape.is ∙ sym c.one-in-BadShape.ensures

@@ -5,10 +5,10 @@ use borrow.Author.Rules.{rules}
 use Rattle.drawing_c.proofs.paper.shaped.Goals as goal
 
 pub returns-in-Is : goal.returns-in-Is
-returns-in-Is c = ap shaped_paper c.a-1.given.1 ∙ sym c.three.ensures
+returns-in-Is c = ap shaped_paper c.in-Is.is ∙ sym c.three.ensures
 
 pub returns-in-Unsound : goal.returns-in-Unsound
-returns-in-Unsound c = ap shaped_paper c.enum_told-1.given.1 ∙ sym c.three-in-Unsound.ensures
+returns-in-Unsound c = ap shaped_paper c.in-Unsound.is ∙ sym c.three-in-Unsound.ensures
 
 pub returns-in-NoBlock : goal.returns-in-NoBlock
-returns-in-NoBlock c = ap shaped_paper c.enum_told-in-NoBlock-1.given.1 ∙ sym c.three-in-NoBlock.ensures
+returns-in-NoBlock c = ap shaped_paper c.in-NoBlock.is ∙ sym c.three-in-NoBlock.ensures

@@ -7,13 +7,13 @@ use borrow.Author.Rules.{rules}
 use Rattle.drawing_c.proofs.paper.standing.Goals as goal
 
 pub returns-in-None : goal.returns-in-None
-returns-in-None c = ap (λ (s : Standing). says 0 (standing_values s)) c.enum_told-1.given.1 ∙ sym c.four.ensures
+returns-in-None c = ap (λ (s : Standing). says 0 (standing_values s)) c.in-None.is ∙ sym c.four.ensures
 
 pub returns-in-Outside : goal.returns-in-Outside
-returns-in-Outside c = ap (λ (s : Standing). says 0 (standing_values s)) c.enum_told-in-Outside-1.given.1 ∙ sym c.four-in-Outside.ensures
+returns-in-Outside c = ap (λ (s : Standing). says 0 (standing_values s)) c.in-Outside.is ∙ sym c.four-in-Outside.ensures
 
 pub returns-in-Free : goal.returns-in-Free
-returns-in-Free c = ap (λ (s : Standing). says 0 (standing_values s)) c.enum_told-in-Free-1.given.1 ∙ sym c.four-in-Free.ensures
+returns-in-Free c = ap (λ (s : Standing). says 0 (standing_values s)) c.in-Free.is ∙ sym c.four-in-Free.ensures
 
 pub returns-in-Taken : goal.returns-in-Taken
-returns-in-Taken c = ap (λ (s : Standing). says 0 (standing_values s)) c.s-1.given.1 ∙ sym c.four-in-Taken.ensures
+returns-in-Taken c = ap (λ (s : Standing). says 0 (standing_values s)) c.in-Taken.is ∙ sym c.four-in-Taken.ensures

@@ -5,7 +5,7 @@ use borrow.Author.Rules.{rules}
 use Rattle.drawing_c.proofs.paper.stood.Goals as goal
 
 pub returns-in-Is : goal.returns-in-Is
-returns-in-Is c = ap stood_paper c.a-1.given.1 ∙ c.standing.ensures
+returns-in-Is c = ap stood_paper c.in-Is.is ∙ c.standing.ensures
 
 pub returns-in-Unsound : goal.returns-in-Unsound
-returns-in-Unsound c = ap stood_paper c.enum_told-1.given.1 ∙ sym c.four.ensures
+returns-in-Unsound c = ap stood_paper c.in-Unsound.is ∙ sym c.four.ensures
