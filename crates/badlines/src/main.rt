@@ -1,8 +1,8 @@
 // The hand program: an arena of two segments, a work list, and what a person types (crate typed).
 #![tactic(auto)]
 
-fn main() {
+fn main(rt: HostRuntime) {
     let mut arena = [0u32; 8339];
     let mut list = [0u32; 4096];
-    typed::run(&mut arena, &mut list);
+    typed::run(&mut rt.stdin(), &mut rt.stdout(), &mut arena, &mut list);
 }

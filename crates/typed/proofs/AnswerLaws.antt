@@ -1,18 +1,20 @@
 -- Texts: bytes put behind others, a number in decimal, and handles each after a space.
 -- Assumes nothing.
-use Prim.Native.Nat.{ℕ, zero, suc, ◌+◌, ◌-◌, ◌^◌, ◌≤◌, ◌<◌}
+use Prim.Native.Nat.{ℕ, zero, suc, ◌+◌, ◌-◌, ◌/◌, ◌%◌, ◌^◌, ◌≤◌, ◌<◌}
 use mathlib.Core.Path.{◌≡◌, refl, sym, ap, ◌∙◌}
 use mathlib.Core.Logic.{inl, inr}
 use mathlib.Core.Bool.{Bool, true, false}
 use mathlib.Core.List.{List, [], ◌∷◌, ◌++◌, append_assoc, append-nil}
-use native.Mathlib.Nat.{le_refl, le_of_suc-le-suc, lt_of_not-le, eq-or-lt_of_le, pow-le-pow_right}
-use native.Mathlib.Numerals.{add-one}
+use native.Mathlib.Nat.{le_refl, le_of_suc-le-suc, lt_of_not-le, eq-or-lt_of_le, pow-suc, pow-le-pow_right}
+use native.Mathlib.Numerals.{add-one, sub-one}
 use native.Mathlib.Omega.{arith}
 use lib.Dec.{ltb}
-use lib.ListN.{length, get_or, set, take, drop, take-append-drop}
+use lib.ListN.{length, get_or, set, take, drop, take-append-drop, length-append}
 use lib.Seq.{paste, paste-suc, take-paste, take-length, take-suc, drop-drop}
 use borrow.Author.Tests.{lt-ltb, le-ltb, ne_eqb}
-use Rattle.io.specs.Digits.{last_digits, IsDigitCount}
+use Rattle.typed.specs.Digits.{hex_digit_ascii, last_digits, IsDigitCount}
+use Rattle.std.specs.Fmt.{decimal as text_of}
+use Rattle.std.proofs.lemmas.Fmt.{decimal_by_steps}
 use Rattle.model.specs.Below.{first_from}
 use Rattle.typed.specs.Answers.{places, decimal, spelled, newline, refused_word, numbered, said}
 
@@ -73,6 +75,49 @@ fewest_places v k small fewest =
 pub decimal_is : (v k : ℕ) → v < 4294967296 → IsDigitCount 10 1 v k → last_digits 10 k v ≡ decimal v
 unfolding decimal
 decimal_is v k small fewest = ap (λ (j : ℕ). last_digits 10 j v) (fewest_places v k small fewest)
+
+-- a digit more
+low_power : (v k : ℕ) → 0 < v → IsDigitCount 10 1 v (suc k) → 10 ^ k ≤ v
+low_power v zero some fewest = omega arith
+low_power v (suc k) some fewest = rw sub-one at (fewest.2 (omega arith))
+
+digits_more : (v k : ℕ) → 10 ≤ v → IsDigitCount 10 1 (v / 10) k → IsDigitCount 10 1 v (suc k)
+digits_more v zero some fewest = absurd (omega arith)
+digits_more v (suc k) some fewest =
+    let low : 10 ^ k ≤ v / 10 = low_power (v / 10) k (omega arith) fewest in
+    let high : v / 10 < 10 ^ suc k = fewest.1 in
+    (omega arith, rw pow-suc (omega arith), λ more. rw (sub-one, pow-suc) (omega arith))
+
+digit_is : (d : ℕ) → d < 10 → hex_digit_ascii d ≡ 48 + d
+digit_is d small = rw (lt-ltb d 10 small)
+
+-- what std writes of a number: its last digits, and the fewest that hold it
+record Printed (v : ℕ) (text : List ℕ) : Type 0 where
+  count : IsDigitCount 10 1 v (length text)
+  digits : text ≡ last_digits 10 (length text) v
+
+printed_one : (v : ℕ) → v < 10 → Printed v ((48 + v) ∷ [])
+printed_one v small =
+    let same : v % 10 ≡ v = omega arith in
+    record { count = (omega arith, omega arith, λ more. omega arith); digits = ap (λ (d : ℕ). d ∷ []) (sym (ap hex_digit_ascii same ∙ digit_is v small)) }
+
+printed_more : (v : ℕ) (text : List ℕ) → 10 ≤ v → Printed (v / 10) text → Printed v (text ++ ((48 + v % 10) ∷ []))
+printed_more v text some so =
+    let long : length (text ++ ((48 + v % 10) ∷ [])) ≡ suc (length text) = rw (length-append, add-one) in
+    record {
+      count = rw long (digits_more v (length text) some so.count);
+      digits = rw long (ap (λ (t : List ℕ). t ++ ((48 + v % 10) ∷ [])) so.digits
+      ∙ ap (λ (d : ℕ). last_digits 10 (length text) (v / 10) ++ (d ∷ [])) (sym (digit_is (v % 10) (omega arith))));
+    }
+
+printed : (v : ℕ) → v < 2 ^ 64 → Printed v (text_of v)
+printed = decimal_by_steps Printed printed_one printed_more
+
+-- what std writes of a u32 is the number in decimal
+pub printed_is : (v : ℕ) → v < 4294967296 → text_of v ≡ decimal v
+printed_is v small =
+    let so = printed v (omega arith) in
+    so.digits ∙ decimal_is v (length (text_of v)) small so.count
 
 -- ---- handles, each after a space
 

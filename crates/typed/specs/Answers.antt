@@ -3,7 +3,7 @@
 -- those of the answer on paper.
 -- Assumes nothing.
 use Rattle.std.specs.Prelude.{ℕ, ◌^◌, cond, List, [], ◌∷◌, ◌++◌, get_or, take, eqb, ltb}
-use Rattle.io.specs.Digits.{last_digits}
+use Rattle.typed.specs.Digits.{last_digits}
 use Rattle.model.specs.Below.{first_from}
 use Rattle.model.specs.Numbers.{granted, allocated_paper, written_paper, collected_paper}
 use Rattle.model.specs.declared.Allocated.{Allocated}

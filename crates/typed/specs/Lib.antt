@@ -1,3 +1,5 @@
 pub mod Answers
+pub mod Counts
+pub mod Digits
 pub mod Held
 pub mod Orders

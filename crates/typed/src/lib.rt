@@ -21,6 +21,7 @@ use drawing::make::make;
 use drawing::references::write_reference;
 use lines::{Order, read_line};
 use model::{Allocated, Collected, Handle, Written};
+use std::io::{Read, Write};
 
 mod say;
 
@@ -54,18 +55,24 @@ fn obey(arena: &mut [u32], list: &mut [u32], text: &[u8]) -> Answer
 }
 
 // Answers a line, and says whether the answer could be written.
-fn answer_line(arena: &mut [u32], list: &mut [u32], text: &[u8]) -> bool
+fn answer_line<W: Write>(output: &mut W, arena: &mut [u32], list: &mut [u32], text: &[u8]) -> bool
     ensures { Answered (meaning text.now) arena.old list.old arena.new list.new }
 {
     let x = obey(arena, list, text);
-    say::answer(x, list)
+    say::answer(output, x, list)
 }
 
-fn answer_held(arena: &mut [u32], list: &mut [u32], line: &[u8], held: usize) -> bool
+fn answer_held<W: Write>(
+    output: &mut W,
+    arena: &mut [u32],
+    list: &mut [u32],
+    line: &[u8],
+    held: usize,
+) -> bool
     requires { held ≤ length line.now }
     ensures { Answered (meaning (take held line.now)) arena.old list.old arena.new list.new }
 {
-    answer_line(arena, list, &line[..held])
+    answer_line(output, arena, list, &line[..held])
 }
 
 // Holds a byte of a line where there is room for it.
@@ -82,7 +89,14 @@ fn hold(line: &mut [u8], held: usize, byte: u8) -> usize
 }
 
 // Takes one byte in: the end of a line has it answered.
-fn take_byte(arena: &mut [u32], list: &mut [u32], line: &mut [u8], held: usize, byte: u8) -> Held
+fn take_byte<W: Write>(
+    output: &mut W,
+    arena: &mut [u32],
+    list: &mut [u32],
+    line: &mut [u8],
+    held: usize,
+    byte: u8,
+) -> Held
     requires { held ≤ length line.old }
     ensures result_in_bounds { held_bytes result ≤ length line.old }
     ensures took_byte { TookByte (length line.old) (take held line.old) arena.old list.old byte (held_line result line.new) arena.new list.new }
@@ -90,7 +104,7 @@ fn take_byte(arena: &mut [u32], list: &mut [u32], line: &mut [u8], held: usize, 
     if byte != b'\n' {
         return Held::Bytes(hold(line, held, byte));
     }
-    if answer_held(arena, list, line, held) {
+    if answer_held(output, arena, list, line, held) {
         Held::Bytes(0)
     } else {
         Held::Stop
@@ -98,7 +112,8 @@ fn take_byte(arena: &mut [u32], list: &mut [u32], line: &mut [u8], held: usize, 
 }
 
 // Takes bytes in, until an answer cannot be written. A line that is longer than there is room for is too long, whatever follows.
-fn take_bytes(
+fn take_bytes<W: Write>(
+    output: &mut W,
     arena: &mut [u32],
     list: &mut [u32],
     line: &mut [u8],
@@ -112,7 +127,7 @@ fn take_bytes(
     let mut held = before;
     let mut at = 0;
     while at < bytes.len() {
-        let Held::Bytes(n) = take_byte(arena, list, line, held, bytes[at]) else {
+        let Held::Bytes(n) = take_byte(output, arena, list, line, held, bytes[at]) else {
             return Held::Stop;
         };
         held = n;
@@ -122,7 +137,13 @@ fn take_bytes(
 }
 
 // The input has ended: bytes that are held are a line without its newline.
-fn end(arena: &mut [u32], list: &mut [u32], line: &[u8], held: usize) -> Held
+fn end<W: Write>(
+    output: &mut W,
+    arena: &mut [u32],
+    list: &mut [u32],
+    line: &[u8],
+    held: usize,
+) -> Held
     requires { held ≤ length line.now }
     ensures result_value { held_bytes result ≡ 0 }
     ensures ended { Ended held line.now arena.old list.old arena.new list.new }
@@ -130,33 +151,44 @@ fn end(arena: &mut [u32], list: &mut [u32], line: &[u8], held: usize) -> Held
     if held == 0 {
         return Held::Stop;
     }
-    answer_held(arena, list, line, held);
+    answer_held(output, arena, list, line, held);
     Held::Stop
 }
 
 // Reads once, and answers the lines that ended.
-fn turn(arena: &mut [u32], list: &mut [u32], line: &mut [u8], held: usize) -> Held
+fn turn<R: Read, W: Write>(
+    input: &mut R,
+    output: &mut W,
+    arena: &mut [u32],
+    list: &mut [u32],
+    line: &mut [u8],
+    held: usize,
+) -> Held
     requires { (held ≤ length line.old) × (length line.old ≡ 81) }
     ensures { held_bytes result ≤ length line.old }
 {
-    let mut bytes = io::buffer();
-    let got = libc::read(libc::STDIN_FILENO, &mut bytes);
-    if got <= 0 {
-        return end(arena, list, line, held);
+    let mut bytes = [0u8; 4096];
+    match input.read(&mut bytes) {
+        Ok(0) | Err(_) => end(output, arena, list, line, held),
+        Ok(n) => take_bytes(output, arena, list, line, held, &bytes[..n]),
     }
-    let n = io::count(got, &bytes);
-    take_bytes(arena, list, line, held, &bytes[..n])
 }
 
 // A proved loop has to end, and nothing says that the input does: the turns are counted down from a number
 // that no run uses up.
-fn turns(arena: &mut [u32], list: &mut [u32], line: &mut [u8])
+fn turns<R: Read, W: Write>(
+    input: &mut R,
+    output: &mut W,
+    arena: &mut [u32],
+    list: &mut [u32],
+    line: &mut [u8],
+)
     requires { length line.old ≡ 81 }
 {
     let mut held: usize = 0;
     let mut left = u64::MAX;
     while left > 0 {
-        let Held::Bytes(n) = turn(arena, list, line, held) else {
+        let Held::Bytes(n) = turn(input, output, arena, list, line, held) else {
             return;
         };
         held = n;
@@ -165,8 +197,8 @@ fn turns(arena: &mut [u32], list: &mut [u32], line: &mut [u8])
 }
 
 // Makes an arena of two segments, and answers what is typed until the input ends or an answer cannot be written.
-pub fn run(arena: &mut [u32], list: &mut [u32]) {
+pub fn run<R: Read, W: Write>(input: &mut R, output: &mut W, arena: &mut [u32], list: &mut [u32]) {
     make(arena, 2);
     let mut line = [0u8; 81];
-    turns(arena, list, &mut line);
+    turns(input, output, arena, list, &mut line);
 }

@@ -1,13 +1,14 @@
 // The answers in words (specs/Answers). A text is made first, and its bytes are proved; to write it is then to pass it on. Each function
 // that writes says whether its answer could be written.
 ghost use Rattle.std.specs.Prelude.{◌≡◌, ◌∷◌, ◌++◌, ◌+◌, ◌-◌, ◌*◌, ◌≤◌, ◌<◌, length, take, drop};
-ghost use Rattle.io.specs.Counts.{IsPrefixLen};
+ghost use Rattle.typed.specs.Counts.{IsPrefixLen};
 ghost use Rattle.typed.specs.Orders.{live_count, listed_count};
 ghost use Rattle.typed.specs.Answers.{decimal, spelled, numbered, newline, refused_word, bad_line_words, allocated_words, written_words, collected_head};
 
 use crate::Answer;
-use libc::STDOUT_FILENO;
+use itoa::Buffer;
 use model::{Allocated, Collected, Written};
+use std::io::Write;
 use words::slices::wide;
 
 // Puts bytes behind the first n of a text, and gives how many the text then has.
@@ -32,9 +33,8 @@ fn put_number(text: &mut [u8], n: usize, v: u32) -> usize
     ensures upper_bound { result ≤ n + 10 }
     ensures text_after { take result text.new ≡ take n text.old ++ decimal v }
 {
-    let mut digits = [0u8; 20];
-    let k = io::decimal(v as u64, &mut digits);
-    put(text, n, &digits[..k])
+    let mut digits = Buffer::new();
+    put(text, n, digits.format(v).as_bytes())
 }
 
 // A word, a number and what ends it.
@@ -141,38 +141,38 @@ fn piece_text(text: &mut [u8], handles: &[u32], at: usize, end: usize) -> usize
     handles_text(text, &handles[at..end])
 }
 
-fn bad_line() -> bool {
+fn bad_line<W: Write>(output: &mut W) -> bool {
     let mut text = [0u8; 32];
     let n = bad_line_text(&mut text);
-    io::write_all(STDOUT_FILENO, &text[..n])
+    output.write_all(&text[..n]).is_ok()
 }
 
-fn allocated(a: Allocated) -> bool {
+fn allocated<W: Write>(output: &mut W, a: Allocated) -> bool {
     let mut text = [0u8; 32];
     let n = allocated_text(&mut text, a);
-    io::write_all(STDOUT_FILENO, &text[..n])
+    output.write_all(&text[..n]).is_ok()
 }
 
-fn written(a: Written) -> bool {
+fn written<W: Write>(output: &mut W, a: Written) -> bool {
     let mut text = [0u8; 32];
     let n = written_text(&mut text, a);
-    io::write_all(STDOUT_FILENO, &text[..n])
+    output.write_all(&text[..n]).is_ok()
 }
 
-fn piece(handles: &[u32], at: usize, end: usize) -> bool
+fn piece<W: Write>(output: &mut W, handles: &[u32], at: usize, end: usize) -> bool
     requires { (at ≤ end) × (end ≤ length handles.now) × (end ≤ at + 256) }
 {
     let mut text = [0u8; 4096];
     let n = piece_text(&mut text, handles, at, end);
-    io::write_all(STDOUT_FILENO, &text[..n])
+    output.write_all(&text[..n]).is_ok()
 }
 
 // Writes the handles of a list, which may be more than a text has room for.
-fn pieces(handles: &[u32]) -> bool {
+fn pieces<W: Write>(output: &mut W, handles: &[u32]) -> bool {
     let mut at = 0;
     while at < handles.len() {
         let end = piece_end(at, handles.len());
-        if !piece(handles, at, end) {
+        if !piece(output, handles, at, end) {
             return false;
         }
         at = end;
@@ -180,36 +180,36 @@ fn pieces(handles: &[u32]) -> bool {
     true
 }
 
-fn head(a: Collected) -> bool {
+fn head<W: Write>(output: &mut W, a: Collected) -> bool {
     let mut text = [0u8; 32];
     let n = collected_text(&mut text, a);
-    io::write_all(STDOUT_FILENO, &text[..n])
+    output.write_all(&text[..n]).is_ok()
 }
 
 // Where blocks are live, the list holds their handles.
-fn collected(a: Collected, list: &[u32]) -> bool
+fn collected<W: Write>(output: &mut W, a: Collected, list: &[u32]) -> bool
     requires { live_count a ≤ length list.now }
 {
-    if !head(a) {
+    if !head(output, a) {
         return false;
     }
     let Collected::Live(c) = a else {
         return true;
     };
     let end = wide(c);
-    if !pieces(&list[..end]) {
+    if !pieces(output, &list[..end]) {
         return false;
     }
-    io::write_all(STDOUT_FILENO, b"\n")
+    output.write_all(b"\n").is_ok()
 }
 
-pub fn answer(x: Answer, list: &[u32]) -> bool
+pub fn answer<W: Write>(output: &mut W, x: Answer, list: &[u32]) -> bool
     requires { listed_count x ≤ length list.now }
 {
     match x {
-        Answer::Allocated(a) => allocated(a),
-        Answer::Written(a) => written(a),
-        Answer::Collected(a) => collected(a, list),
-        Answer::BadLine => bad_line(),
+        Answer::Allocated(a) => allocated(output, a),
+        Answer::Written(a) => written(output, a),
+        Answer::Collected(a) => collected(output, a, list),
+        Answer::BadLine => bad_line(output),
     }
 }

@@ -5,6 +5,7 @@ use drawing::collect::collect;
 use drawing::make::make;
 use drawing::{ask, plain, references};
 use model::{Allocated, Handle};
+use std::io;
 
 // Makes an arena of one segment, with one block of two references and one plain word: handle 1.
 pub fn fresh(arena: &mut [u32]) {
@@ -24,53 +25,73 @@ pub fn spoil(arena: &mut [u32]) {
     }
 }
 
-pub fn makes(arena: &mut [u32], segments: u32) {
-    print::number(numbers::made(make(arena, segments)));
+pub fn makes(rt: &impl Print, arena: &mut [u32], segments: u32) -> io::Result<()> {
+    print::number(rt, numbers::made(make(arena, segments)))
 }
 
-pub fn allocates(arena: &mut [u32], n: u32, r: u32) {
-    print::number(numbers::allocated(allocate(arena, n, r, 7)));
+pub fn allocates(rt: &impl Print, arena: &mut [u32], n: u32, r: u32) -> io::Result<()> {
+    print::number(rt, numbers::allocated(allocate(arena, n, r, 7)))
 }
 
-pub fn stands(arena: &[u32], h: u32) {
-    print::number(numbers::stood(ask::standing(arena, Handle(h))));
+pub fn stands(rt: &impl Print, arena: &[u32], h: u32) -> io::Result<()> {
+    print::number(rt, numbers::stood(ask::standing(arena, Handle(h))))
 }
 
-pub fn has_shape(arena: &[u32], h: u32) {
-    print::number(numbers::shaped(ask::shape(arena, Handle(h))));
+pub fn has_shape(rt: &impl Print, arena: &[u32], h: u32) -> io::Result<()> {
+    print::number(rt, numbers::shaped(ask::shape(arena, Handle(h))))
 }
 
-pub fn has_room(arena: &[u32], class: u32) {
-    print::number(numbers::room(ask::room(arena, class)));
+pub fn has_room(rt: &impl Print, arena: &[u32], class: u32) -> io::Result<()> {
+    print::number(rt, numbers::room(ask::room(arena, class)))
 }
 
-pub fn reads_reference(arena: &[u32], h: u32, f: u32) {
-    print::number(numbers::read(references::read_reference(arena, Handle(h), f)));
+pub fn reads_reference(rt: &impl Print, arena: &[u32], h: u32, f: u32) -> io::Result<()> {
+    print::number(
+        rt,
+        numbers::read(references::read_reference(arena, Handle(h), f)),
+    )
 }
 
-pub fn writes_reference(arena: &mut [u32], h: u32, f: u32, v: u32) {
-    print::number(numbers::written(references::write_reference(arena, Handle(h), f, v)));
+pub fn writes_reference(
+    rt: &impl Print,
+    arena: &mut [u32],
+    h: u32,
+    f: u32,
+    v: u32,
+) -> io::Result<()> {
+    print::number(
+        rt,
+        numbers::written(references::write_reference(arena, Handle(h), f, v)),
+    )
 }
 
-pub fn reads_plain(arena: &[u32], h: u32, f: u32) {
-    print::number(numbers::read(plain::read_plain(arena, Handle(h), f)));
+pub fn reads_plain(rt: &impl Print, arena: &[u32], h: u32, f: u32) -> io::Result<()> {
+    print::number(rt, numbers::read(plain::read_plain(arena, Handle(h), f)))
 }
 
-pub fn has_plain_words(arena: &[u32], h: u32) {
+pub fn has_plain_words(rt: &impl Print, arena: &[u32], h: u32) -> io::Result<()> {
     let part = plain::plain_words(arena, Handle(h));
     if part.len() == 0 {
-        print::number(0);
+        print::number(rt, 0)
     } else {
-        print::number(1);
+        print::number(rt, 1)
     }
 }
 
-pub fn writes_plain(arena: &mut [u32], h: u32, f: u32, v: u32) {
-    print::number(numbers::written(plain::write_plain(arena, Handle(h), f, v)));
+pub fn writes_plain(rt: &impl Print, arena: &mut [u32], h: u32, f: u32, v: u32) -> io::Result<()> {
+    print::number(
+        rt,
+        numbers::written(plain::write_plain(arena, Handle(h), f, v)),
+    )
 }
 
-pub fn collects(arena: &mut [u32], roots: &[u32], list: &mut [u32]) {
-    print::number(numbers::collected(collect(arena, roots, list)));
+pub fn collects(
+    rt: &impl Print,
+    arena: &mut [u32],
+    roots: &[u32],
+    list: &mut [u32],
+) -> io::Result<()> {
+    print::number(rt, numbers::collected(collect(arena, roots, list)))
 }
 
 // The handle that an allocation gives, 0 where it is refused.

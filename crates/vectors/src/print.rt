@@ -1,15 +1,14 @@
 // Lines of words and numbers on standard output.
-use libc::STDOUT_FILENO;
+use std::io;
 
-pub fn word(text: &[u8]) {
-    io::write_all(STDOUT_FILENO, text);
+pub fn word(rt: &impl Print, text: &[u8]) -> io::Result<()> {
+    rt.write_all(text)
 }
 
-pub fn number(v: u32) {
-    word(b" ");
-    io::print_decimal(STDOUT_FILENO, v as u64);
+pub fn number(rt: &impl Print, v: u32) -> io::Result<()> {
+    print!(rt; " {v}")
 }
 
-pub fn end() {
-    word(b"\n");
+pub fn end(rt: &impl Print) -> io::Result<()> {
+    word(rt, b"\n")
 }
