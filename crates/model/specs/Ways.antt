@@ -1,7 +1,7 @@
 -- Ways, their order, and the list of a collection (demand 3). "A way is a root position (zeros and doubles count as positions) and then
 -- reference field positions, all from 0."
 -- Assumes nothing.
-use Rattle.std.specs.Prelude.{ℕ, suc, ◌+◌, ◌<◌, ◌≡◌, ◌⊎◌, ◌≢◌, Bool, cond, ◌&&◌, ◌||◌, false, List, [], ◌∷◌, ◌++◌, length, get_or, ltb, eqb}
+use Rattle.std.specs.Prelude.{ℕ, suc, ◌<◌, ◌≡◌, ◌⊎◌, ◌≢◌, Bool, cond, ◌&&◌, ◌||◌, false, List, [], ◌∷◌, ◌++◌, length, get_or, ltb, eqb}
 use Rattle.model.specs.View.{block, r_in, reference_in}
 use Rattle.model.specs.Standing.{is_taken}
 

@@ -1,7 +1,7 @@
 -- Putting handles on a list, one after the other: 0 and what is there already are passed over, the rest goes on its end. The list only grows
 -- at its end, nothing is put on twice, what is there is from the list or from what was put on, and a row may be put on in parts.
 -- Assumes nothing.
-use Prim.Native.Nat.{ℕ, suc, ◌+◌, ◌<◌, ◌≤◌}
+use Prim.Native.Nat.{ℕ, suc, ◌<◌, ◌≤◌}
 use mathlib.Core.Path.{◌≡◌, refl, sym, ◌∙◌, ap, subst}
 use mathlib.Core.Logic.{◌⊎◌, inl, inr, ◌≢◌}
 use mathlib.Core.Bool.{Bool, true, false, cond, ◌||◌, true≢false}

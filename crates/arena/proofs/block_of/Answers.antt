@@ -6,7 +6,6 @@ use lib.ListN.{length}
 use Rattle.model.specs.Word.{part}
 use Rattle.words.proofs.ClassLaws.{bounds_class}
 use Rattle.words.proofs.HandleLaws.{block_in_arena}
-use borrow.Author.Rules.{rules}
 use Rattle.arena.proofs.block_of.Goals as goal
 use Rattle.arena.proofs.block_of.Goals.{After-wide}
 

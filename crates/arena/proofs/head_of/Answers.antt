@@ -1,5 +1,4 @@
 -- `arena::head_of` meets its contract: the word at the record's offset is the first of the record's words. Assumes nothing.
-use borrow.Author.Rules.{rules}
 use Prim.Native.Nat.{◌+◌, ◌*◌}
 use mathlib.Core.Path.{◌≡◌, ap, sym, ◌∙◌}
 use native.Mathlib.Omega.{arith}

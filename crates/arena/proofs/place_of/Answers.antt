@@ -1,7 +1,6 @@
 -- `arena::place_of` meets its contract: the place of class i is word i - 2. Assumes nothing.
 use mathlib.Core.Path.{ap}
 use Rattle.model.specs.Word.{word}
-use borrow.Author.Rules.{rules}
 use Rattle.arena.proofs.place_of.Goals as goal
 
 pub returns : goal.returns

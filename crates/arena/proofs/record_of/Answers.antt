@@ -4,7 +4,6 @@ use mathlib.Core.Path.{◌≡◌, ap₂}
 use native.Mathlib.Omega.{arith}
 use Rattle.model.specs.Word.{part}
 use Rattle.model.specs.View.{record_of}
-use borrow.Author.Rules.{rules}
 use Rattle.arena.proofs.record_of.Goals as goal
 
 pub returns : goal.returns

@@ -2,7 +2,6 @@
 use Prim.Native.Nat.{ℕ}
 use mathlib.Core.Path.{sym, subst}
 use Rattle.drawing.specs.Place.{PlainPlace}
-use borrow.Author.Rules.{rules}
 use Rattle.drawing_c.proofs.ds_plain_words.Goals as goal
 
 pub returns : goal.returns

@@ -1,6 +1,5 @@
 -- `ranking::rank_anew` meets its contract: counts, keys, heads and places are those of the collection, and so is the arena that they make.
 -- Assumes nothing.
-use borrow.Author.Rules.{rules}
 use Prim.Native.Nat.{ℕ}
 use mathlib.Core.Path.{ap, subst, ◌∙◌}
 use mathlib.Core.List.{List}

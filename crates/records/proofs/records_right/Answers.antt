@@ -1,9 +1,5 @@
 -- `records::records_right` meets its contract: the first clause that fails decides, and the clauses passed give what the later ones ask (RecordsLaws).
 -- Assumes nothing.
-use mathlib.Core.Path.{◌≡◌}
-use mathlib.Core.Bool.{Bool, ◌&&◌}
-use borrow.Author.Rules.{rules}
-use Rattle.model.specs.Sound.{sized, unnamed_zero, classes, ranks, levels, counts, behind, places}
 use Rattle.arena.specs.Inside.{Classed}
 use Rattle.records.specs.Judged.{Sized, records_sound}
 use Rattle.records.proofs.LoopLaws.{failed, passed}

@@ -4,7 +4,6 @@ use native.Mathlib.Omega.{arith}
 use Rattle.model.specs.Word.{field}
 use Rattle.words.proofs.ClassLaws.{class_bounds}
 use Rattle.allocation.proofs.FindLaws.{whole, place_ranked, place_inside, free_same}
-use borrow.Author.Rules.{rules}
 use Rattle.allocation.proofs.find.at_place.Goals as goal
 
 pub place_of-place-requires : goal.place_of-place-requires

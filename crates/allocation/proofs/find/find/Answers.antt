@@ -3,7 +3,6 @@ use mathlib.Core.Path.{sym, ◌∙◌}
 use native.Mathlib.Omega.{arith}
 use Rattle.words.proofs.ClassLaws.{class_bounds}
 use Rattle.allocation.proofs.FindLaws.{members_asked, place_asked, joining_asked, none_unused, found_here, found_next, none_left}
-use borrow.Author.Rules.{rules}
 use Rattle.allocation.proofs.find.find.Goals as goal
 
 pub members-m-requires : goal.members-m-requires

@@ -1,6 +1,5 @@
 -- `allocation::find::joining` meets its contract. Assumes nothing.
 use mathlib.Core.Path.{refl, sym, ◌∙◌}
-use borrow.Author.Rules.{rules}
 use Rattle.allocation.proofs.FindLaws.{pool_joins, pool_empty}
 use Rattle.allocation.proofs.find.joining.Goals as goal
 

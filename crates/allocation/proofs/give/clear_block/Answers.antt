@@ -1,6 +1,5 @@
 -- `allocation::give::clear_block` meets its contract: zeros with a header before them. Assumes nothing.
 use Rattle.allocation.proofs.GiveLaws.{cleared}
-use borrow.Author.Rules.{rules}
 use lib.ListN.{length}
 use Rattle.allocation.proofs.give.clear_block.Goals as goal
 

@@ -1,6 +1,5 @@
 -- `allocation::give::give` meets its contract: no segment joins, so the words are those that document 01 says. Assumes nothing.
 use Rattle.allocation.proofs.GiveLaws.{has_head, here_take, here_is}
-use borrow.Author.Rules.{rules}
 use Rattle.allocation.proofs.give.give.Goals as goal
 
 pub segments-n-requires : goal.segments-n-requires

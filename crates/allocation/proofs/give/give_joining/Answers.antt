@@ -1,6 +1,5 @@
 -- `allocation::give::give_joining` meets its contract: with the segment that joins, the words are those that document 01 says. Assumes nothing.
 use Rattle.allocation.proofs.GiveLaws.{has_head, joining_join, joining_take, joining_is}
-use borrow.Author.Rules.{rules}
 use Rattle.allocation.proofs.give.give_joining.Goals as goal
 
 pub segments-n-requires : goal.segments-n-requires

@@ -6,7 +6,6 @@ use native.Mathlib.Omega.{arith}
 use Rattle.model.specs.Layout.{record_head}
 use Rattle.bitmap.proofs.RecordLaws.{record_length}
 use Rattle.allocation.proofs.GiveLaws.{put_lent}
-use borrow.Author.Rules.{rules}
 use Rattle.allocation.proofs.give.join.Goals as goal
 
 pub returns : goal.returns

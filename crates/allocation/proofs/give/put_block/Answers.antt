@@ -5,7 +5,6 @@ use mathlib.Core.Path.{◌∙◌}
 use native.Mathlib.Omega.{arith}
 use lib.ListN.{length}
 use Rattle.allocation.proofs.GiveLaws.{block_ends, clear_asked, put_block_is}
-use borrow.Author.Rules.{rules}
 use Rattle.allocation.proofs.give.put_block.Goals as goal
 use Rattle.allocation.proofs.give.put_block.Goals.{After-wide}
 

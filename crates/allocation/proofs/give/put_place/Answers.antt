@@ -3,7 +3,6 @@ use mathlib.Core.Path.{ap₂, sym, ◌∙◌}
 use native.Mathlib.Omega.{arith}
 use lib.ListN.{set}
 use Rattle.laws.proofs.Splice.{put_one}
-use borrow.Author.Rules.{rules}
 use Prim.Native.Nat.{◌-◌}
 use Rattle.allocation.proofs.give.put_place.Goals as goal
 

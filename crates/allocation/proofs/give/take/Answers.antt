@@ -1,7 +1,6 @@
 -- `allocation::give::take` meets its contract: the block, and then the place. Assumes nothing.
 use native.Mathlib.Omega.{arith}
 use Rattle.allocation.proofs.GiveLaws.{index_fits, taken_is}
-use borrow.Author.Rules.{rules}
 use Rattle.allocation.proofs.give.take.Goals as goal
 
 pub overflow_add-spot : goal.overflow_add-spot

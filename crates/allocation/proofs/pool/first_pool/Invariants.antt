@@ -1,12 +1,8 @@
 -- `allocation::pool::first_pool` meets its contract: no segment passed is in the pool. Assumes nothing.
-use borrow.Author.Rules.{rules}
 use Prim.Native.Nat.{◌-◌}
-use mathlib.Core.Path.{◌∙◌}
-use native.Mathlib.Omega.{arith}
 use Rattle.model.specs.View.{segments}
 use Rattle.model.specs.Standing.{in_pool}
-use Rattle.model.specs.Calls.{first_pool}
-use Rattle.allocation.proofs.LoopLaws.{Failed, none_yet, one_more, one_passes, none_passes}
+use Rattle.allocation.proofs.LoopLaws.{Failed}
 use Rattle.allocation.proofs.pool.first_pool.Given as goal
 
 abbrev pub invariant-loop-s : goal.invariant-loop-s

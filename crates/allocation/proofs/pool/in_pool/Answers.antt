@@ -2,7 +2,6 @@
 use Prim.Native.Nat.{ℕ}
 use mathlib.Core.Path.{ap}
 use lib.Dec.{eqb}
-use borrow.Author.Rules.{rules}
 use Rattle.allocation.proofs.pool.in_pool.Goals as goal
 
 pub returns : goal.returns

@@ -5,7 +5,6 @@ use mathlib.Core.Bool.{Bool, ◌&&◌}
 use lib.Dec.{eqb}
 use borrow.Author.Tests.{eq-eqb, ne_eqb}
 use Rattle.model.specs.View.{rank}
-use borrow.Author.Rules.{rules}
 use Rattle.allocation.proofs.segments.has_rank.Goals as goal
 
 pub returns-then-class : goal.returns-then-class

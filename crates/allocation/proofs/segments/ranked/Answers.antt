@@ -1,11 +1,8 @@
 -- `allocation::segments::ranked` meets its contract: no segment passed has the rank. Assumes nothing.
-use borrow.Author.Rules.{rules}
-use Prim.Native.Nat.{◌-◌}
 use mathlib.Core.Path.{◌∙◌}
 use native.Mathlib.Omega.{arith}
-use Rattle.model.specs.View.{segments, ranked}
-use Rattle.allocation.specs.Spots.{has_rank}
-use Rattle.allocation.proofs.LoopLaws.{Failed, none_yet, one_more, one_passes, none_passes}
+use Rattle.model.specs.View.{ranked}
+use Rattle.allocation.proofs.LoopLaws.{none_yet, one_more, one_passes, none_passes}
 use Rattle.allocation.proofs.segments.ranked.Goals as goal
 
 pub loop-s-init : goal.loop-s-init

@@ -1,11 +1,8 @@
 -- `allocation::segments::ranked` meets its contract: no segment passed has the rank. Assumes nothing.
-use borrow.Author.Rules.{rules}
 use Prim.Native.Nat.{◌-◌}
-use mathlib.Core.Path.{◌∙◌}
-use native.Mathlib.Omega.{arith}
-use Rattle.model.specs.View.{segments, ranked}
+use Rattle.model.specs.View.{segments}
 use Rattle.allocation.specs.Spots.{has_rank}
-use Rattle.allocation.proofs.LoopLaws.{Failed, none_yet, one_more, one_passes, none_passes}
+use Rattle.allocation.proofs.LoopLaws.{Failed}
 use Rattle.allocation.proofs.segments.ranked.Given as goal
 
 abbrev pub invariant-loop-s : goal.invariant-loop-s

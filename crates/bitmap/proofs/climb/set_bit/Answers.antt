@@ -3,7 +3,6 @@
 use Prim.Native.Nat.{ℕ, ◌-◌}
 use native.Mathlib.Omega.{arith}
 use mathlib.Core.Path.{ap, ◌∙◌}
-use borrow.Author.Rules.{rules}
 use Rattle.words.proofs.ClassLaws.{blocks_most}
 use Rattle.bitmap.specs.Tree.{climbed}
 use Rattle.bitmap.proofs.LevelLaws.{levels_pos, levels_le}

@@ -1,7 +1,6 @@
 -- `bitmap::count::low_bits` meets its contract: the shift loses nothing.
 -- Assumes nothing.
 use lib.Pow.{pow_pos}
-use borrow.Author.Rules.{rules}
 use Rattle.laws.proofs.Bits.{shl_one}
 use Rattle.bitmap.proofs.count.low_bits.Goals as goal
 

@@ -1,7 +1,7 @@
 -- `bitmap::count::ones_in` meets its contract. The loop's invariant: `sum` is the number of ones in the words passed, at most 32 in each.
 -- The measure is what is left of the length.
 -- Assumes nothing.
-use Prim.Native.Nat.{ℕ, ◌+◌, ◌-◌, ◌*◌, ◌≤◌}
+use Prim.Native.Nat.{ℕ, ◌+◌}
 use native.Mathlib.Omega.{arith}
 use mathlib.Core.Path.{◌≡◌, sym, ap, ap₂, ◌∙◌}
 use lib.ListN.{length}

@@ -1,14 +1,11 @@
 -- `bitmap::count::ones_in` meets its contract. The loop's invariant: `sum` is the number of ones in the words passed, at most 32 in each.
 -- The measure is what is left of the length.
 -- Assumes nothing.
-use Prim.Native.Nat.{ℕ, ◌+◌, ◌-◌, ◌*◌, ◌≤◌}
-use native.Mathlib.Omega.{arith}
-use mathlib.Core.Path.{◌≡◌, sym, ap, ap₂, ◌∙◌}
+use Prim.Native.Nat.{◌-◌, ◌*◌, ◌≤◌}
+use mathlib.Core.Path.{◌≡◌}
 use lib.ListN.{length}
-use borrow.Author.Rules.{rules}
 use Rattle.model.specs.Below.{count_below, sum_below}
 use Rattle.model.specs.Word.{word, bit}
-use Rattle.laws.proofs.Below.{sum_below_step, count_below_le}
 use Rattle.bitmap.proofs.count.ones_in.Given as goal
 
 abbrev pub invariant-loop-j : goal.invariant-loop-j

@@ -1,7 +1,6 @@
 -- `bitmap::fresh::fresh` meets its contract: zeros with each level padded are the levels of a segment without any block set (FreshLaws).
 -- Assumes nothing.
 use mathlib.Core.Path.{ap, ◌∙◌}
-use borrow.Author.Rules.{rules}
 use Rattle.model.specs.Layout.{record_head}
 use Rattle.bitmap.specs.Tree.{padded_level}
 use Rattle.bitmap.proofs.FreshLaws.{fresh_is}

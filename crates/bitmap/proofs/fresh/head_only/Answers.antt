@@ -5,7 +5,6 @@ use native.Mathlib.Omega.{arith}
 use mathlib.Core.Path.{ap, ap₂, ◌∙◌}
 use mathlib.Core.List.{List}
 use lib.ListN.{set, replicate}
-use borrow.Author.Rules.{rules}
 use Rattle.words.proofs.ClassLaws.{class_bounds}
 use Rattle.bitmap.proofs.fresh.head_only.Goals as goal
 

@@ -5,7 +5,6 @@ use native.Mathlib.Omega.{arith}
 use mathlib.Core.Path.{ap, ap₂, ◌∙◌}
 use lib.ListN.{set}
 use borrow.Author.Tests.{lt-ltb, le-ltb}
-use borrow.Author.Rules.{rules}
 use Rattle.model.specs.Class.{level_words}
 use Rattle.words.proofs.ClassLaws.{class_bounds}
 use Rattle.bitmap.specs.Tree.{padding_word}

@@ -1,6 +1,5 @@
 -- `bitmap::fresh::padding` meets its contract: it asks what the definition asks.
 -- Assumes nothing.
-use borrow.Author.Rules.{rules}
 use borrow.Author.Tests.{eq-eqb, ne_eqb}
 use Rattle.bitmap.proofs.fresh.padding.Goals as goal
 

@@ -4,7 +4,6 @@ use Prim.Native.Nat.{ℕ, zero, suc, ◌-◌}
 use native.Mathlib.Omega.{arith}
 use mathlib.Core.Path.{◌≡◌, refl, ◌∙◌}
 use mathlib.Core.Logic.{◌≢◌}
-use borrow.Author.Rules.{rules}
 use Rattle.model.specs.Class.{level_words, level_end}
 use Rattle.words.proofs.ClassLaws.{class_bounds}
 use Rattle.bitmap.proofs.levels.level_end.Goals as goal

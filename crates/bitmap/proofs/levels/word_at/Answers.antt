@@ -1,7 +1,6 @@
 -- `bitmap::levels::word_at` meets its contract: the words of a level stand inside the record.
 -- Assumes nothing.
 use native.Mathlib.Omega.{arith}
-use borrow.Author.Rules.{rules}
 use Rattle.bitmap.proofs.LevelLaws.{level_inside}
 use Rattle.bitmap.proofs.levels.word_at.Goals as goal
 

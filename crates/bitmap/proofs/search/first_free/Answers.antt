@@ -1,7 +1,6 @@
 -- `bitmap::search::first_free` meets its contract: it is the search at level 0, which ends at the number of blocks.
 -- Assumes nothing.
 use native.Mathlib.Omega.{arith}
-use borrow.Author.Rules.{rules}
 use Rattle.model.specs.Class.{level_end}
 use Rattle.bitmap.proofs.LevelLaws.{levels_pos}
 use Rattle.bitmap.proofs.search.first_free.Goals as goal

@@ -4,7 +4,6 @@ use Prim.Native.Nat.{ℕ, ◌-◌}
 use native.Mathlib.Omega.{arith}
 use mathlib.Core.Path.{ap, ◌∙◌}
 use mathlib.Core.Bool.{Bool, not}
-use borrow.Author.Rules.{rules}
 use Rattle.model.specs.Below.{first_from}
 use Rattle.model.specs.Word.{word, bit}
 use Rattle.laws.proofs.Below.{first_is}

@@ -1,6 +1,5 @@
 -- `drawing::allocate::allocate_sound` meets the promise of allocate: by what the search found. Assumes nothing.
-use Rattle.allocation.proofs.AllocateLaws.{search_asked, Searched, give_asked, handle_asked, given_here, joining_asked, joining_handle_asked, given_joining, none_given}
-use borrow.Author.Rules.{rules}
+use Rattle.allocation.proofs.AllocateLaws.{search_asked, Searched, handle_asked, given_here, joining_handle_asked, given_joining, none_given}
 use Rattle.drawing.proofs.allocate.allocate_sound.Goals as goal
 use Rattle.drawing.proofs.allocate.allocate_sound.Goals.{After-find}
 

@@ -1,6 +1,5 @@
 -- `drawing::ask::shape` keeps its promise. Assumes nothing.
 use mathlib.Core.Path.{refl, ap, ◌∙◌}
-use borrow.Author.Rules.{rules}
 use Rattle.taken.proofs.RowLaws.{zero_row}
 use Rattle.model.specs.Standing.{shape_in, shape_of}
 use Rattle.model.specs.Numbers.{shape_values}

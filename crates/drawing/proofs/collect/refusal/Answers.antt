@@ -1,12 +1,8 @@
 -- `drawing::collect::refusal` meets its contract. Assumes nothing.
-use borrow.Author.Rules.{rules}
 use borrow.Author.Tests.{not-true, not-false}
-use Prim.Native.Nat.{ℕ}
 use native.Mathlib.Omega.{arith}
 use mathlib.Core.Path.{◌≡◌, sym, ◌∙◌}
 use mathlib.Core.Bool.{true}
-use mathlib.Core.List.{List}
-use Rattle.model.specs.View.{segments}
 use Rattle.model.specs.Standing.{taken_count}
 use Rattle.model.specs.Sound.{sound}
 use Rattle.soundness.proofs.Facts.{Sized, sound_facts}

@@ -3,7 +3,6 @@ use Prim.Native.Nat.{◌-◌}
 use native.Mathlib.Omega.{arith}
 use mathlib.Core.Path.{ap}
 use lib.Dec.{ltb}
-use borrow.Author.Rules.{rules}
 use Rattle.model.specs.declared.Shape.{Shape}
 use Rattle.drawing.proofs.fields.has_plain.Goals as goal
 

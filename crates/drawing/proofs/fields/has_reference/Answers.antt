@@ -1,7 +1,6 @@
 -- `drawing::fields::has_reference` compares a field's number with r. Assumes nothing.
 use mathlib.Core.Path.{ap}
 use lib.Dec.{ltb}
-use borrow.Author.Rules.{rules}
 use Rattle.model.specs.declared.Shape.{Shape}
 use Rattle.drawing.proofs.fields.has_reference.Goals as goal
 

@@ -2,7 +2,6 @@
 use Prim.Native.Nat.{◌+◌, ◌-◌}
 use native.Mathlib.Omega.{arith}
 use mathlib.Core.Path.{ap₂, ◌≡◌}
-use borrow.Author.Rules.{rules}
 use Rattle.model.specs.Word.{part}
 use Rattle.model.specs.View.{n_in, r_in}
 use Rattle.drawing.proofs.fields.plain_part.Goals as goal

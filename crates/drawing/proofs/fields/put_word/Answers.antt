@@ -2,7 +2,6 @@
 use Prim.Native.Nat.{ℕ}
 use mathlib.Core.Path.{ap, sym, ◌∙◌}
 use lib.ListN.{set}
-use borrow.Author.Rules.{rules}
 use Rattle.laws.proofs.Splice.{put_one}
 use Rattle.drawing.proofs.fields.put_word.Goals as goal
 

@@ -1,5 +1,4 @@
 -- `drawing::look::block` gives the words of a taken block. Assumes nothing.
-use borrow.Author.Rules.{rules}
 use Rattle.drawing.proofs.LookLaws.{block_there, block_words_are}
 use Rattle.drawing.proofs.look.block.Goals as goal
 

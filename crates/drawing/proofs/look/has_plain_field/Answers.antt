@@ -1,5 +1,4 @@
 -- `drawing::look::has_plain_field` tells whether a taken block has plain word f. Assumes nothing.
-use borrow.Author.Rules.{rules}
 use Rattle.drawing.proofs.LookLaws.{plain_field}
 use Rattle.drawing.proofs.look.has_plain_field.Goals as goal
 

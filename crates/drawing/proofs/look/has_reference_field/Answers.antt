@@ -1,5 +1,4 @@
 -- `drawing::look::has_reference_field` tells whether a taken block has reference f. Assumes nothing.
-use borrow.Author.Rules.{rules}
 use Rattle.drawing.proofs.LookLaws.{reference_field}
 use Rattle.drawing.proofs.look.has_reference_field.Goals as goal
 

@@ -2,7 +2,6 @@
 use native.Mathlib.Omega.{arith}
 use mathlib.Core.Path.{◌≡◌, ap, ap₂, sym, ◌∙◌}
 use lib.Dec.{ltb}
-use borrow.Author.Rules.{rules}
 use Rattle.model.specs.Class.{blocks}
 use Rattle.model.specs.Layout.{segment_of, index_of}
 use Rattle.model.specs.View.{class}

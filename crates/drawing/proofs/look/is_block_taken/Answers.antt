@@ -1,6 +1,5 @@
 -- `drawing::look::is_block_taken` tells whether a handle is that of a taken block. Assumes nothing.
 use mathlib.Core.Path.{◌∙◌}
-use borrow.Author.Rules.{rules}
 use Rattle.taken.proofs.RowLaws.{row_taken_is}
 use Rattle.drawing.proofs.LookLaws.{asked}
 use Rattle.drawing.proofs.look.is_block_taken.Goals as goal

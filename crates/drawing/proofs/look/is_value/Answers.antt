@@ -1,6 +1,5 @@
 -- `drawing::look::is_value` tells whether a value is 0 or the handle of a taken block. Assumes nothing.
 use mathlib.Core.Path.{◌∙◌}
-use borrow.Author.Rules.{rules}
 use Rattle.taken.proofs.RowLaws.{row_none_or_taken_is}
 use Rattle.drawing.proofs.look.is_value.Goals as goal
 

@@ -1,6 +1,5 @@
 -- `drawing::look::standing_of` gives the standing of a handle. Assumes nothing.
 use mathlib.Core.Path.{ap, sym, ◌∙◌}
-use borrow.Author.Rules.{rules}
 use Rattle.model.specs.Standing.{shape_in}
 use Rattle.model.specs.declared.Standing.TheVariants.{Taken}
 use Rattle.soundness.proofs.Taken.{standing_taken}

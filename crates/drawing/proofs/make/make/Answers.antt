@@ -4,7 +4,6 @@ use native.Mathlib.Omega.{arith}
 use mathlib.Core.List.{[]}
 use mathlib.Core.Path.{◌≡◌, refl}
 use lib.ListN.{length}
-use borrow.Author.Rules.{rules}
 use Rattle.model.specs.Calls.{fresh}
 use Rattle.drawing.proofs.Outcomes.{refused, granted}
 use Rattle.drawing.proofs.Sizes.{none_asked, too_many, other_length, right_size, made}

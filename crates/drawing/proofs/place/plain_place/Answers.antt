@@ -1,6 +1,5 @@
 -- `drawing::place::plain_place` gives the place of a block's plain words. Assumes nothing.
 use mathlib.Core.Path.{refl}
-use borrow.Author.Rules.{rules}
 use Rattle.taken.proofs.RowLaws.{zero_row}
 use Rattle.drawing.proofs.LookLaws.{not_sound, is_ruled, not_taken, is_there}
 use Rattle.drawing.proofs.Refusals.{block_unsound, block_untaken}

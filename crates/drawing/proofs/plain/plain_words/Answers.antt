@@ -1,6 +1,5 @@
 -- `drawing::plain::plain_words` keeps its promise. Assumes nothing.
 use mathlib.Core.Path.{refl, ap, ◌∙◌}
-use borrow.Author.Rules.{rules}
 use Rattle.taken.proofs.RowLaws.{zero_row}
 use Rattle.model.specs.View.{plain_words_in}
 use Rattle.drawing.proofs.LookLaws.{not_sound, is_ruled, not_taken, is_there}

@@ -3,7 +3,6 @@ use Prim.Native.Nat.{◌-◌}
 use mathlib.Core.List.{List, [], ◌∷◌}
 use mathlib.Core.Path.{refl, ap, ◌∙◌}
 use lib.Dec.{ltb}
-use borrow.Author.Rules.{rules}
 use Rattle.taken.proofs.RowLaws.{zero_row}
 use Rattle.model.specs.View.{block, n_in, r_in, plain_in}
 use Rattle.drawing.specs.Fields.{field_read}

@@ -1,5 +1,4 @@
 -- `drawing::put::offset_of` gives the offset of a taken block. Assumes nothing.
-use borrow.Author.Rules.{rules}
 use Rattle.drawing.proofs.LookLaws.{block_there, starts}
 use Rattle.drawing.proofs.put.offset_of.Goals as goal
 

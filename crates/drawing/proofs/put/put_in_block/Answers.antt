@@ -4,7 +4,6 @@ use native.Mathlib.Omega.{arith}
 use mathlib.Core.List.{[], ◌∷◌}
 use mathlib.Core.Path.{◌≡◌, ap, ◌∙◌}
 use lib.ListN.{length}
-use borrow.Author.Rules.{rules}
 use Rattle.model.specs.Word.{put}
 use Rattle.drawing.proofs.PutLaws.{put_lent}
 use Rattle.drawing.proofs.put.put_in_block.Goals as goal

@@ -1,6 +1,5 @@
 -- `drawing::put::words_of` gives the number of words of a taken block. Assumes nothing.
 use mathlib.Core.Path.{ap, ◌∙◌}
-use borrow.Author.Rules.{rules}
 use Rattle.model.specs.Class.{block_words}
 use Rattle.model.specs.View.{class}
 use Rattle.drawing.proofs.put.words_of.Goals as goal

@@ -2,7 +2,6 @@
 use mathlib.Core.List.{List, [], ◌∷◌}
 use mathlib.Core.Path.{refl, ap, ◌∙◌}
 use lib.Dec.{ltb}
-use borrow.Author.Rules.{rules}
 use Rattle.taken.proofs.RowLaws.{zero_row}
 use Rattle.model.specs.View.{block, r_in, reference_in}
 use Rattle.drawing.specs.Fields.{field_read}

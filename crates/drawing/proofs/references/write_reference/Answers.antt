@@ -4,7 +4,6 @@ use native.Mathlib.Omega.{arith}
 use mathlib.Core.List.{[], ◌∷◌}
 use mathlib.Core.Path.{refl, sym, ◌∙◌}
 use lib.Dec.{ltb}
-use borrow.Author.Rules.{rules}
 use Rattle.taken.proofs.RowLaws.{zero_row}
 use borrow.Author.Tests.{ltb-true, not-true, not-false}
 use Rattle.model.specs.Word.{put}

@@ -2,7 +2,6 @@
 use Prim.Native.Nat.{◌-◌}
 use native.Mathlib.Omega.{arith}
 use mathlib.Core.Path.{sym, ap₂, ◌∙◌}
-use borrow.Author.Rules.{rules}
 use Rattle.drawing.proofs.RoomLaws.{ones_within, own_room, no_room}
 use Rattle.drawing.proofs.rooms.room_in.Goals as goal
 

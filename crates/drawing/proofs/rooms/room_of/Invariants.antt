@@ -1,13 +1,9 @@
 -- `drawing::rooms::room_of` gives the room of a class. The loop's invariant: the room of the first s segments is counted. Assumes nothing.
-use Prim.Native.Nat.{ℕ, ◌+◌, ◌-◌, ◌*◌, ◌≤◌}
-use native.Mathlib.Omega.{arith}
-use mathlib.Core.Path.{◌≡◌, ap, ap₂, sym, ◌∙◌}
-use borrow.Author.Rules.{rules}
+use Prim.Native.Nat.{◌-◌, ◌*◌, ◌≤◌}
+use mathlib.Core.Path.{◌≡◌}
 use Rattle.model.specs.Below.{sum_below}
 use Rattle.model.specs.View.{segments}
-use Rattle.laws.proofs.Below.{sum_below_step}
 use Rattle.drawing.specs.Rooms.{room_in}
-use Rattle.drawing.proofs.RoomLaws.{room_sum}
 use Rattle.drawing.proofs.rooms.room_of.Given as goal
 
 abbrev pub invariant-loop-s : goal.invariant-loop-s

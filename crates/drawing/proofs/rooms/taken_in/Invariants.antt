@@ -1,13 +1,9 @@
 -- `drawing::rooms::taken_in` counts the taken blocks of a segment. The loop's invariant: the ones of the first j words are counted.
 -- Assumes nothing.
-use Prim.Native.Nat.{ℕ, ◌+◌, ◌-◌, ◌*◌, ◌≤◌}
-use native.Mathlib.Omega.{arith}
-use mathlib.Core.Path.{◌≡◌, ap, ap₂, sym, ◌∙◌}
-use borrow.Author.Rules.{rules}
+use Prim.Native.Nat.{◌+◌, ◌-◌, ◌*◌, ◌≤◌}
+use mathlib.Core.Path.{◌≡◌}
 use Rattle.model.specs.Below.{count_below}
-use Rattle.model.specs.Word.{word, bit}
-use Rattle.laws.proofs.Below.{count_below_le}
-use Rattle.drawing.proofs.RoomLaws.{segment_bit, count_more}
+use Rattle.drawing.proofs.RoomLaws.{segment_bit}
 use Rattle.drawing.proofs.rooms.taken_in.Given as goal
 
 abbrev pub invariant-loop-j : goal.invariant-loop-j

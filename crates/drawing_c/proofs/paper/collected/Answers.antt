@@ -1,7 +1,6 @@
 -- `drawing_c::paper::collected` gives the number and the value of each answer: in each arm of the match the answer is that arm's. Assumes nothing.
 use mathlib.Core.Path.{ap, sym, ◌∙◌}
 use Rattle.model.specs.Numbers.{collected_paper}
-use borrow.Author.Rules.{rules}
 use Rattle.drawing_c.proofs.paper.collected.Goals as goal
 
 pub returns-in-Live : goal.returns-in-Live

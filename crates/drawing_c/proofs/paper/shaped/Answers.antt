@@ -1,7 +1,6 @@
 -- `drawing_c::paper::shaped` gives the number and the values of each answer: in each arm of the match the answer is that arm's. Assumes nothing.
 use mathlib.Core.Path.{ap, sym, ◌∙◌}
 use Rattle.model.specs.Numbers.{shaped_paper}
-use borrow.Author.Rules.{rules}
 use Rattle.drawing_c.proofs.paper.shaped.Goals as goal
 
 pub returns-in-Is : goal.returns-in-Is

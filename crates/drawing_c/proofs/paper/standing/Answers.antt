@@ -3,7 +3,6 @@ use mathlib.Core.Path.{ap, sym, ◌∙◌}
 use Rattle.model.specs.Numbers.{standing_values}
 use Rattle.model.specs.declared.Standing.{Standing}
 use Rattle.drawing_c.specs.Face.{says}
-use borrow.Author.Rules.{rules}
 use Rattle.drawing_c.proofs.paper.standing.Goals as goal
 
 pub returns-in-None : goal.returns-in-None

@@ -5,7 +5,6 @@ use native.Mathlib.Omega.{arith}
 use borrow.Author.Tests.{eq-eqb, ne_eqb}
 use Rattle.model.specs.Class.{blocks}
 use Rattle.ranking.specs.Groups.{group_of}
-use borrow.Author.Rules.{rules}
 use Rattle.ranking.proofs.groups.group.Goals as goal
 
 pub returns-then-class-eq0 : goal.returns-then-class-eq0

@@ -1,5 +1,4 @@
 -- `ranking::heads::new_head` meets its contract. Assumes nothing.
-use borrow.Author.Rules.{rules}
 use Prim.Native.Nat.{ℕ, ◌/◌, ◌%◌}
 use mathlib.Core.Path.{◌≡◌, sym, ap, ap₂, ◌∙◌}
 use mathlib.Core.Bool.{Bool, true, false, cond}

@@ -1,10 +1,8 @@
 -- `ranking::heads::new_heads` meets its contract. The loop's invariant: the heads of the segments passed stand in the row. Assumes nothing.
 use borrow.Author.Rules.{rules}
-use Prim.Native.Nat.{ℕ, ◌-◌, ◌≤◌, ◌<◌}
-use mathlib.Core.Path.{◌≡◌, refl}
+use mathlib.Core.Path.{refl}
 use native.Mathlib.Omega.{arith}
-use lib.ListN.{length, length-set}
-use Rattle.model.specs.Word.{word}
+use lib.ListN.{length-set}
 use Rattle.ranking.specs.Heads.{head_by}
 use Rattle.ranking.proofs.Rows.{row_next}
 use Rattle.ranking.proofs.heads.new_heads.Goals as goal

@@ -1,5 +1,4 @@
 -- `ranking::heads::new_rank` meets its contract. Assumes nothing.
-use borrow.Author.Rules.{rules}
 use Prim.Native.Nat.{ℕ}
 use mathlib.Core.Path.{ap, ◌∙◌}
 use Rattle.ranking.specs.Groups.{full}

@@ -1,5 +1,4 @@
 -- `ranking::keys::key_of` meets its contract. Assumes nothing.
-use borrow.Author.Rules.{rules}
 use Prim.Native.Nat.{ℕ}
 use mathlib.Core.Path.{◌≡◌, ap, ap₂, ◌∙◌}
 use Rattle.model.specs.Word.{word}

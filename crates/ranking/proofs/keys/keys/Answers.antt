@@ -1,10 +1,10 @@
 -- `ranking::keys::keys` meets its contract. The loop's invariant: the keys of the segments passed stand in the row. Assumes nothing.
 use borrow.Author.Rules.{rules}
-use Prim.Native.Nat.{ℕ, ◌-◌, ◌≤◌, ◌<◌}
-use mathlib.Core.Path.{◌≡◌, refl}
+use Prim.Native.Nat.{ℕ}
+use mathlib.Core.Path.{refl}
 use mathlib.Core.List.{List}
 use native.Mathlib.Omega.{arith}
-use lib.ListN.{length, length-set}
+use lib.ListN.{length-set}
 use Rattle.model.specs.Word.{word}
 use Rattle.model.specs.View.{class, rank}
 use Rattle.ranking.specs.Groups.{group_of}
@@ -21,8 +21,7 @@ loop-s-init c = (search rules, refl, λ t l. absurd (omega arith))
 
 pub loop-s-preserved : goal.loop-s-preserved
 loop-s-preserved c =
-    let x = c.loop-s in
-    (
+    let x = c.loop-s in (
       omega arith,
       simp length-set x.invariant.1,
       row_next x.keys (own c.args.arena.now c.args.lives.now) x.s c.wide.result c.key_of.result c.wide.ensures

@@ -1,15 +1,11 @@
 -- `ranking::keys::keys` meets its contract. The loop's invariant: the keys of the segments passed stand in the row. Assumes nothing.
-use borrow.Author.Rules.{rules}
 use Prim.Native.Nat.{ℕ, ◌-◌, ◌≤◌, ◌<◌}
-use mathlib.Core.Path.{◌≡◌, refl}
-use mathlib.Core.List.{List}
-use native.Mathlib.Omega.{arith}
-use lib.ListN.{length, length-set}
+use mathlib.Core.Path.{◌≡◌}
+use lib.ListN.{length}
 use Rattle.model.specs.Word.{word}
 use Rattle.model.specs.View.{class, rank}
 use Rattle.ranking.specs.Groups.{group_of}
 use Rattle.ranking.specs.Keys.{key_of}
-use Rattle.ranking.proofs.Rows.{row_next}
 use Rattle.ranking.proofs.keys.keys.Given as goal
 
 abbrev pub invariant-loop-s : goal.invariant-loop-s

@@ -1,6 +1,5 @@
 -- `ranking::levels::put_word` meets its contract: a word that does not become full is stored, and one that does gets its first bit by a climb
 -- (LevelLaws). Assumes nothing.
-use borrow.Author.Rules.{rules}
 use Prim.Native.Nat.{◌+◌, ◌*◌, ◌<◌}
 use mathlib.Core.Path.{◌∙◌}
 use native.Mathlib.Omega.{arith}

@@ -1,5 +1,4 @@
 -- `ranking::levels::unset` meets its contract: a fresh record with another head. Assumes nothing.
-use borrow.Author.Rules.{rules}
 use Prim.Native.Nat.{ℕ}
 use mathlib.Core.Path.{ap}
 use mathlib.Core.List.{List}

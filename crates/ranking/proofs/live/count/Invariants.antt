@@ -1,12 +1,9 @@
 -- `ranking::live::count` meets its contract. The loop's invariant: the counts of the segments passed stand in the row. Assumes nothing.
-use borrow.Author.Rules.{rules}
 use Prim.Native.Nat.{ℕ, ◌-◌, ◌≤◌, ◌<◌}
-use mathlib.Core.Path.{◌≡◌, refl}
-use native.Mathlib.Omega.{arith}
-use lib.ListN.{length, length-set}
+use mathlib.Core.Path.{◌≡◌}
+use lib.ListN.{length}
 use Rattle.model.specs.Word.{word}
 use Rattle.ranking.specs.Live.{live_in}
-use Rattle.ranking.proofs.Rows.{row_next}
 use Rattle.ranking.proofs.live.count.Given as goal
 
 abbrev pub invariant-loop-s : goal.invariant-loop-s

@@ -1,5 +1,4 @@
 -- `ranking::live::live_in` meets its contract. Assumes nothing.
-use borrow.Author.Rules.{rules}
 use Prim.Native.Nat.{ℕ, ◌+◌, ◌-◌, ◌*◌}
 use mathlib.Core.Path.{◌≡◌, ap₂, ◌∙◌}
 use native.Mathlib.Omega.{arith}

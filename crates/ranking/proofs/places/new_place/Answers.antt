@@ -1,5 +1,4 @@
 -- `ranking::places::new_place` meets its contract. Assumes nothing.
-use borrow.Author.Rules.{rules}
 use mathlib.Core.Path.{ap₂, ◌∙◌}
 use Rattle.ranking.specs.Keys.{keys_in}
 use Rattle.ranking.specs.Places.{place_for, place_by}

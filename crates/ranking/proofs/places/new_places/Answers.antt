@@ -1,10 +1,9 @@
 -- `ranking::places::new_places` meets its contract. The loop's invariant: the places of the classes passed stand in the row. Assumes nothing.
 use borrow.Author.Rules.{rules}
-use Prim.Native.Nat.{ℕ, ◌+◌, ◌-◌, ◌≤◌, ◌<◌}
-use mathlib.Core.Path.{◌≡◌, refl}
+use Prim.Native.Nat.{◌+◌}
+use mathlib.Core.Path.{refl}
 use native.Mathlib.Omega.{arith}
-use lib.ListN.{length, length-set}
-use Rattle.model.specs.Word.{word}
+use lib.ListN.{length-set}
 use Rattle.ranking.specs.Places.{place_by}
 use Rattle.ranking.proofs.Rows.{row_next}
 use Rattle.ranking.proofs.places.new_places.Goals as goal

@@ -4,7 +4,6 @@ use native.Mathlib.Omega.{arith}
 use borrow.Author.Tests.{eq-eqb, ne_eqb, lt-ltb, le-ltb}
 use Rattle.words.proofs.ClassLaws.{blocks_most, bounds_class}
 use Rattle.ranking.specs.Places.{place_for}
-use borrow.Author.Rules.{rules}
 use Rattle.ranking.proofs.places.place_for.Goals as goal
 
 pub returns-then-m-eq0 : goal.returns-then-m-eq0

@@ -1,16 +1,10 @@
 -- `ranking::records::write_records` meets its contract. The loop's invariant: the records passed are the new ones. Assumes nothing.
-use borrow.Author.Rules.{rules}
-use Prim.Native.Nat.{ℕ, ◌+◌, ◌-◌, ◌≤◌, ◌<◌}
-use mathlib.Core.Path.{◌≡◌, refl, sym, ap, ap₂, subst, ◌∙◌}
-use mathlib.Core.List.{List}
-use native.Mathlib.Omega.{arith}
+use Prim.Native.Nat.{◌-◌, ◌≤◌}
+use mathlib.Core.Path.{◌≡◌}
 use lib.ListN.{length}
-use Rattle.model.specs.Word.{word, put}
-use Rattle.model.specs.Layout.{record_at}
-use Rattle.model.specs.View.{segments}
+use Rattle.model.specs.Word.{word}
 use Rattle.ranking.specs.Live.{marks_of}
-use Rattle.ranking.specs.Records.{with_records, marked_record, Head}
-use Rattle.ranking.proofs.RecordLaws.{marked_length, with_none, with_next, with_segments}
+use Rattle.ranking.specs.Records.{with_records, marked_record}
 use Rattle.ranking.proofs.records.write_records.Given as goal
 
 abbrev pub invariant-loop-s : goal.invariant-loop-s

@@ -3,7 +3,6 @@
 use mathlib.Core.Path.{◌≡◌, sym, ap, ◌∙◌}
 use mathlib.Core.Bool.{true, false, and-true}
 use borrow.Author.Tests.{eq-eqb, ne_eqb}
-use borrow.Author.Rules.{rules}
 use Rattle.model.specs.Class.{is_class}
 use Rattle.model.specs.Standing.{in_pool}
 use Rattle.records.proofs.RecordsLaws.{record_length}

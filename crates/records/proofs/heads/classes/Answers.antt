@@ -1,12 +1,8 @@
 -- `records::heads::classes` meets its contract: the loop of LoopLaws, over the segments, with both tests of a segment at once (RecordsLaws).
 -- Assumes nothing.
-use Prim.Native.Nat.{◌-◌}
 use mathlib.Core.Path.{◌∙◌}
 use native.Mathlib.Omega.{arith}
-use borrow.Author.Rules.{rules}
-use Rattle.model.specs.View.{segments}
-use Rattle.records.specs.Judged.{segment_classed}
-use Rattle.records.proofs.LoopLaws.{Passed, none_yet, one_more, one_fails, all_passed}
+use Rattle.records.proofs.LoopLaws.{none_yet, one_more, one_fails, all_passed}
 use Rattle.records.proofs.RecordsLaws.{classes_is}
 use Rattle.records.proofs.heads.classes.Goals as goal
 

@@ -1,11 +1,7 @@
 -- `records::heads::heads_named` meets its contract: the loop of LoopLaws, over the segments.
 -- Assumes nothing.
-use Prim.Native.Nat.{◌-◌}
 use native.Mathlib.Omega.{arith}
-use borrow.Author.Rules.{rules}
-use Rattle.model.specs.View.{segments}
-use Rattle.records.specs.Judged.{head_named}
-use Rattle.records.proofs.LoopLaws.{Passed, none_yet, one_more, one_fails, all_passed}
+use Rattle.records.proofs.LoopLaws.{none_yet, one_more, one_fails, all_passed}
 use Rattle.records.proofs.heads.heads_named.Goals as goal
 
 pub loop-s-init : goal.loop-s-init

@@ -3,7 +3,6 @@
 use Prim.Native.Nat.{ℕ}
 use mathlib.Core.Path.{ap}
 use lib.Dec.{eqb}
-use borrow.Author.Rules.{rules}
 use Rattle.model.specs.Word.{unnamed}
 use Rattle.records.proofs.heads.place_named.Goals as goal
 

@@ -1,10 +1,7 @@
 -- `records::heads::places_named` meets its contract: the loop of LoopLaws, over the ten classes.
 -- Assumes nothing.
-use Prim.Native.Nat.{◌-◌, ◌+◌}
 use native.Mathlib.Omega.{arith}
-use borrow.Author.Rules.{rules}
-use Rattle.records.specs.Judged.{place_named}
-use Rattle.records.proofs.LoopLaws.{Passed, none_yet, one_more, one_fails, all_passed}
+use Rattle.records.proofs.LoopLaws.{none_yet, one_more, one_fails, all_passed}
 use Rattle.records.proofs.heads.places_named.Goals as goal
 
 pub loop-c-init : goal.loop-c-init

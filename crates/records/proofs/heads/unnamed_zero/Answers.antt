@@ -1,7 +1,6 @@
 -- `records::heads::unnamed_zero` meets its contract: word 0, the places and the heads, in this order.
 -- Assumes nothing.
 use borrow.Author.Tests.{eq-eqb, ne_eqb}
-use borrow.Author.Rules.{rules}
 use Rattle.model.specs.Sound.{unnamed_zero}
 use Rattle.records.proofs.LoopLaws.{failed, passed}
 use Rattle.records.proofs.heads.unnamed_zero.Goals as goal

@@ -3,7 +3,6 @@
 use Prim.Native.Nat.{ℕ, ◌+◌, ◌-◌}
 use mathlib.Core.Path.{◌≡◌, ap₂, ◌∙◌}
 use native.Mathlib.Omega.{arith}
-use borrow.Author.Rules.{rules}
 use Rattle.model.specs.Word.{word, part, full, word_of_bits}
 use Rattle.records.proofs.OwnLaws.{room_most, words_inside}
 use Rattle.records.proofs.levels.full_below.Goals as goal

@@ -1,11 +1,9 @@
 -- `records::levels::full_words` meets its contract: the words passed have told their bits (OwnLaws).
 -- Assumes nothing.
-use Prim.Native.Nat.{◌-◌, ◌≤◌}
-use mathlib.Core.Path.{◌≡◌, refl}
+use mathlib.Core.Path.{refl}
 use native.Mathlib.Omega.{arith}
-use lib.ListN.{length}
 use borrow.Author.Rules.{rules}
-use Rattle.records.proofs.OwnLaws.{Told, none_told, one_told, all_told}
+use Rattle.records.proofs.OwnLaws.{none_told, one_told, all_told}
 use Rattle.records.proofs.levels.full_words.Goals as goal
 
 pub loop-b-init : goal.loop-b-init

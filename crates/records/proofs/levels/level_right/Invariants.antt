@@ -1,11 +1,9 @@
 -- `records::levels::level_right` meets its contract: the loop of LoopLaws, over the words for which the level has room.
 -- Assumes nothing.
 use Prim.Native.Nat.{◌-◌}
-use native.Mathlib.Omega.{arith}
-use borrow.Author.Rules.{rules}
 use Rattle.model.specs.Layout.{level_room}
-use Rattle.records.specs.Own.{word_right, level_right}
-use Rattle.records.proofs.LoopLaws.{Passed, none_yet, one_more, one_fails, all_passed}
+use Rattle.records.specs.Own.{word_right}
+use Rattle.records.proofs.LoopLaws.{Passed}
 use Rattle.records.proofs.levels.level_right.Given as goal
 
 abbrev pub invariant-loop-j : goal.invariant-loop-j

@@ -2,7 +2,6 @@
 -- Assumes nothing.
 use mathlib.Core.Path.{◌≡◌, ◌∙◌}
 use native.Mathlib.Omega.{arith}
-use borrow.Author.Rules.{rules}
 use Rattle.model.specs.Sound.{levels_right}
 use Rattle.words.proofs.ClassLaws.{class_bounds}
 use Rattle.records.proofs.LoopLaws.{failed, passed, goes_on}

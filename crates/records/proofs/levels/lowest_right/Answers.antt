@@ -6,7 +6,6 @@ use native.Mathlib.Omega.{arith}
 use lib.Bits.{bit_or}
 use lib.Dec.{eqb}
 use borrow.Author.Tests.{eq-eqb, ne_eqb}
-use borrow.Author.Rules.{rules}
 use Rattle.model.specs.Word.{word, part}
 use Rattle.records.specs.Own.{word_right}
 use Rattle.records.proofs.OwnLaws.{own_lowest, last_fails, last_passes}

@@ -2,7 +2,6 @@
 -- Assumes nothing.
 use mathlib.Core.Path.{sym}
 use native.Mathlib.Omega.{arith}
-use borrow.Author.Rules.{rules}
 use Rattle.bitmap.proofs.LevelLaws.{padded_unused}
 use Rattle.records.specs.Own.{own_set}
 use Rattle.records.proofs.OwnLaws.{room_most, own_above}

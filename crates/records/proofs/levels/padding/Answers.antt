@@ -1,6 +1,5 @@
 -- `records::levels::padding` meets its contract: the ones that the shift leaves are those before bit n (OwnLaws).
 -- Assumes nothing.
-use borrow.Author.Rules.{rules}
 use Rattle.records.proofs.OwnLaws.{padding_is}
 use Rattle.records.proofs.levels.padding.Goals as goal
 

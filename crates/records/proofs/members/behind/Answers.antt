@@ -1,12 +1,9 @@
 -- `records::members::behind` meets its contract: the loop of LoopLaws, over the segments.
 -- Assumes nothing.
-use Prim.Native.Nat.{◌-◌}
 use native.Mathlib.Omega.{arith}
 use borrow.Author.Rules.{rules}
-use Rattle.model.specs.View.{segments}
 use Rattle.model.specs.Sound.{behind}
-use Rattle.records.specs.Judged.{member_behind}
-use Rattle.records.proofs.LoopLaws.{Passed, none_yet, one_more, one_fails, all_passed}
+use Rattle.records.proofs.LoopLaws.{none_yet, one_more, one_fails, all_passed}
 use Rattle.records.proofs.members.behind.Goals as goal
 
 pub loop-s-init : goal.loop-s-init

@@ -1,6 +1,5 @@
 -- `records::members::member_counts` meets its contract: a segment in the pool passes, and any other has 68 words of its class to be counted.
 -- Assumes nothing.
-use borrow.Author.Rules.{rules}
 use Rattle.records.proofs.RecordsLaws.{is_zero, not_zero, member_record}
 use Rattle.records.proofs.members.member_counts.Goals as goal
 

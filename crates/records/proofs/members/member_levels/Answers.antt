@@ -1,7 +1,6 @@
 -- `records::members::member_levels` meets its contract: a segment in the pool passes, and any other has 68 words of its class to be judged.
 -- Assumes nothing.
 use mathlib.Core.Path.{◌∙◌}
-use borrow.Author.Rules.{rules}
 use Rattle.records.proofs.RecordsLaws.{is_zero, not_zero, member_record}
 use Rattle.records.proofs.members.member_levels.Goals as goal
 

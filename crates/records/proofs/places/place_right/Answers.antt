@@ -1,6 +1,5 @@
 -- `records::places::place_right` meets its contract: it asks what the definition asks, of the fields of the place.
 -- Assumes nothing.
-use borrow.Author.Rules.{rules}
 use Rattle.model.specs.Sound.{place_right}
 use Rattle.records.proofs.places.place_right.Goals as goal
 

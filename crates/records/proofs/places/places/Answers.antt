@@ -1,10 +1,8 @@
 -- `records::places::places` meets its contract: the loop of LoopLaws, over the ten classes.
 -- Assumes nothing.
-use Prim.Native.Nat.{◌-◌, ◌+◌}
 use native.Mathlib.Omega.{arith}
-use borrow.Author.Rules.{rules}
-use Rattle.model.specs.Sound.{place_right, places}
-use Rattle.records.proofs.LoopLaws.{Passed, none_yet, one_more, one_fails, all_passed}
+use Rattle.model.specs.Sound.{places}
+use Rattle.records.proofs.LoopLaws.{none_yet, one_more, one_fails, all_passed}
 use Rattle.records.proofs.places.places.Goals as goal
 
 pub loop-c-init : goal.loop-c-init

@@ -1,12 +1,10 @@
 -- `records::ranks::class_ranked` meets its contract: the loop of LoopLaws, over the ranks below the number of members.
 -- Assumes nothing.
 use Prim.Native.Nat.{◌-◌}
-use native.Mathlib.Omega.{arith}
 use lib.Dec.{eqb}
-use borrow.Author.Rules.{rules}
 use Rattle.model.specs.View.{members}
 use Rattle.records.specs.Judged.{holders}
-use Rattle.records.proofs.LoopLaws.{Passed, none_yet, one_more, one_fails, all_passed}
+use Rattle.records.proofs.LoopLaws.{Passed}
 use Rattle.records.proofs.ranks.class_ranked.Given as goal
 
 abbrev pub invariant-loop-q : goal.invariant-loop-q

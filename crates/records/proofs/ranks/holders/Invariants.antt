@@ -1,11 +1,9 @@
 -- `records::ranks::holders` meets its contract: the counting loop of LoopLaws, over the segments.
 -- Assumes nothing.
 use Prim.Native.Nat.{◌-◌}
-use native.Mathlib.Omega.{arith}
-use borrow.Author.Rules.{rules}
-use Rattle.model.specs.View.{segments, members}
+use Rattle.model.specs.View.{segments}
 use Rattle.records.specs.Judged.{has_rank}
-use Rattle.records.proofs.LoopLaws.{Counted, none_counted, one_counted, all_counted}
+use Rattle.records.proofs.LoopLaws.{Counted}
 use Rattle.records.proofs.ranks.holders.Given as goal
 
 abbrev pub invariant-loop-s : goal.invariant-loop-s

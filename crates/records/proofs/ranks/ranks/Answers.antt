@@ -1,11 +1,8 @@
 -- `records::ranks::ranks` meets its contract: the loop of LoopLaws, over the ten classes.
 -- Assumes nothing.
-use Prim.Native.Nat.{◌-◌, ◌+◌}
 use native.Mathlib.Omega.{arith}
-use borrow.Author.Rules.{rules}
 use Rattle.model.specs.Sound.{ranks}
-use Rattle.records.specs.Judged.{class_ranked}
-use Rattle.records.proofs.LoopLaws.{Passed, none_yet, one_more, one_fails, all_passed}
+use Rattle.records.proofs.LoopLaws.{none_yet, one_more, one_fails, all_passed}
 use Rattle.records.proofs.ranks.ranks.Goals as goal
 
 pub loop-c-init : goal.loop-c-init

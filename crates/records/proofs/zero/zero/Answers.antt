@@ -1,11 +1,8 @@
 -- `records::zero::zero` meets its contract: the joining loop of LoopLaws, over the words.
 -- Assumes nothing.
-use Prim.Native.Nat.{◌-◌}
-use mathlib.Core.Path.{◌≡◌, refl}
+use mathlib.Core.Path.{refl}
 use native.Mathlib.Omega.{arith}
-use lib.ListN.{length}
-use borrow.Author.Rules.{rules}
-use Rattle.records.proofs.LoopLaws.{Joined, none_joined, one_joined, all_joined}
+use Rattle.records.proofs.LoopLaws.{none_joined, one_joined, all_joined}
 use Rattle.records.proofs.zero.zero.Goals as goal
 
 pub loop-j-init : goal.loop-j-init

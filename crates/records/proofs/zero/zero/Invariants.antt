@@ -1,11 +1,9 @@
 -- `records::zero::zero` meets its contract: the joining loop of LoopLaws, over the words.
 -- Assumes nothing.
 use Prim.Native.Nat.{◌-◌}
-use mathlib.Core.Path.{◌≡◌, refl}
-use native.Mathlib.Omega.{arith}
+use mathlib.Core.Path.{◌≡◌}
 use lib.ListN.{length}
-use borrow.Author.Rules.{rules}
-use Rattle.records.proofs.LoopLaws.{Joined, none_joined, one_joined, all_joined}
+use Rattle.records.proofs.LoopLaws.{Joined}
 use Rattle.records.proofs.zero.zero.Given as goal
 
 abbrev pub invariant-loop-j : goal.invariant-loop-j

@@ -1,6 +1,5 @@
 -- `words::class::level_words` meets its contract: antt computes the rule of the table at each of its entries.
 -- Assumes nothing.
-use borrow.Author.Rules.{rules}
 use Rattle.model.specs.Below.{all_below}
 use Rattle.model.specs.Class.{level_words}
 use Rattle.words.proofs.ClassLaws.{bounds_class, row_rule}

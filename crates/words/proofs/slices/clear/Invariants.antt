@@ -1,12 +1,8 @@
 -- `words::slices::clear` meets its contract: what has been passed is 0, and the rest as it was. Assumes nothing.
 use Prim.Native.Nat.{◌-◌, ◌≤◌}
-use mathlib.Core.Path.{◌≡◌, ◌∙◌}
-use mathlib.Core.List.{◌++◌, append-nil}
-use native.Mathlib.Omega.{arith}
-use lib.Seq.{drop-length}
+use mathlib.Core.Path.{◌≡◌}
+use mathlib.Core.List.{◌++◌}
 use lib.ListN.{length, drop, replicate}
-use borrow.Author.Fill.{fill_more}
-use borrow.Author.Rules.{rules}
 use Rattle.words.proofs.slices.clear.Given as goal
 
 abbrev pub invariant-loop-o : goal.invariant-loop-o
