@@ -107,7 +107,7 @@ printed_more v text some so =
     record {
       count = rw long (digits_more v (length text) some so.count);
       digits = rw long (ap (λ (t : List ℕ). t ++ ((48 + v % 10) ∷ [])) so.digits
-      ∙ ap (λ (d : ℕ). last_digits 10 (length text) (v / 10) ++ (d ∷ [])) (sym (digit_is (v % 10) (omega arith))));
+          ∙ ap (λ (d : ℕ). last_digits 10 (length text) (v / 10) ++ (d ∷ [])) (sym (digit_is (v % 10) (omega arith))));
     }
 
 printed : (v : ℕ) → v < 2 ^ 64 → Printed v (text_of v)

@@ -1,10 +1,10 @@
 -- `typed::say::handles_text` meets its contract. The loop's invariant: the text spells the first `at` handles, with at most 11 bytes each.
 -- The measure is the handles that are left. Assumes nothing.
-use Prim.Native.Nat.{ℕ, ◌-◌, ◌*◌, ◌≤◌, ◌<◌}
-use mathlib.Core.Path.{◌≡◌, ap, sym, ◌∙◌}
+use Prim.Native.Nat.{ℕ, ◌≤◌, ◌<◌}
+use mathlib.Core.Path.{ap, sym, ◌∙◌}
 use mathlib.Core.List.{List, ◌∷◌, ◌++◌}
 use native.Mathlib.Omega.{arith}
-use lib.ListN.{length, take, get_or}
+use lib.ListN.{length, get_or}
 use lib.Seq.{take_all}
 use borrow.Author.Rules.{rules}
 use Rattle.typed.specs.Answers.{decimal, spelled}

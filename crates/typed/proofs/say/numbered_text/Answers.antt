@@ -2,7 +2,6 @@
 use Prim.Native.Nat.{ℕ}
 use mathlib.Core.Path.{ap, ◌∙◌}
 use mathlib.Core.List.{List, ◌++◌}
-use borrow.Author.Rules.{rules}
 use Rattle.typed.specs.Answers.{decimal}
 use Rattle.typed.proofs.AnswerLaws.{behind}
 use Rattle.typed.proofs.say.numbered_text.Goals as goal

@@ -1,7 +1,6 @@
 -- `typed::say::pieces` is safe and ends. The measure is the handles that are left. Assumes nothing.
 use Prim.Native.Nat.{◌-◌, ◌≤◌}
 use lib.ListN.{length}
-use borrow.Author.Rules.{rules}
 use Rattle.typed.proofs.say.pieces.Given as goal
 
 abbrev pub invariant-loop-at : goal.invariant-loop-at

@@ -1,11 +1,8 @@
 -- `typed::say::put` meets its contract. The loop's invariant: the first `at` bytes stand behind the first n of the text. Assumes nothing.
 use Prim.Native.Nat.{◌-◌, ◌≤◌}
 use mathlib.Core.Path.{◌≡◌}
-use native.Mathlib.Omega.{arith}
-use lib.ListN.{length, length-set}
-use lib.Seq.{paste, paste-zero}
-use borrow.Author.Rules.{rules}
-use Rattle.typed.proofs.AnswerLaws.{paste_more, put_all}
+use lib.ListN.{length}
+use lib.Seq.{paste}
 use Rattle.typed.proofs.say.put.Given as goal
 
 abbrev pub invariant-loop-at : goal.invariant-loop-at
