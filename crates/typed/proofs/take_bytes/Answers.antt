@@ -1,12 +1,11 @@
 -- `typed::take_bytes` meets its contract: before each turn the bytes before it have been typed. The measure is the bytes that are left. Assumes nothing.
-use Prim.Native.Nat.{◌+◌, ◌-◌, ◌≤◌}
-use mathlib.Core.Path.{◌≡◌, refl, sym, ap}
+use Prim.Native.Nat.{◌+◌, ◌≤◌}
+use mathlib.Core.Path.{◌≡◌, refl}
 use mathlib.Core.Bool.{false≢true}
 use native.Mathlib.Omega.{arith}
 use lib.ListN.{length, take}
 use lib.Seq.{length-take-le}
 use borrow.Author.Rules.{rules}
-use Rattle.typed.specs.Held.{held_bytes, TypedHeld}
 use Rattle.typed.proofs.HeldLaws.{typed_none, typed_next}
 use Rattle.typed.proofs.take_bytes.Goals as goal
 

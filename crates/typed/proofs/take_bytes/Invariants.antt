@@ -1,13 +1,8 @@
 -- `typed::take_bytes` meets its contract: before each turn the bytes before it have been typed. The measure is the bytes that are left. Assumes nothing.
-use Prim.Native.Nat.{◌+◌, ◌-◌, ◌≤◌}
-use mathlib.Core.Path.{◌≡◌, refl, sym, ap}
-use mathlib.Core.Bool.{false≢true}
-use native.Mathlib.Omega.{arith}
+use Prim.Native.Nat.{◌-◌, ◌≤◌}
+use mathlib.Core.Path.{◌≡◌}
 use lib.ListN.{length, take}
-use lib.Seq.{length-take-le}
-use borrow.Author.Rules.{rules}
-use Rattle.typed.specs.Held.{held_bytes, TypedHeld}
-use Rattle.typed.proofs.HeldLaws.{typed_none, typed_next}
+use Rattle.typed.specs.Held.{TypedHeld}
 use Rattle.typed.proofs.take_bytes.Given as goal
 
 abbrev pub invariant-loop-at : goal.invariant-loop-at

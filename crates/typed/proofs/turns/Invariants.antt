@@ -1,10 +1,7 @@
 -- `typed::turns` is safe and ends: what is held stays within the line. The measure is the turns that are left. Assumes nothing.
 use Prim.Native.Nat.{◌≤◌}
-use mathlib.Core.Path.{◌≡◌, ap}
-use native.Mathlib.Omega.{arith}
+use mathlib.Core.Path.{◌≡◌}
 use lib.ListN.{length}
-use borrow.Author.Rules.{rules}
-use Rattle.typed.specs.Held.{held_bytes}
 use Rattle.typed.proofs.turns.Given as goal
 
 abbrev pub invariant-loop-left : goal.invariant-loop-left
