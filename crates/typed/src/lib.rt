@@ -1,6 +1,6 @@
 // The hand program: what a person types at the store, answered line by line.
 //
-// Standard input comes in pieces, cut anywhere. Its bytes are gathered into a line of at most 81, so that a
+// The input comes in pieces, cut anywhere. Its bytes are gathered into a line of at most 81, so that a
 // line of any length takes no more room: with 81 bytes it is too long, whatever follows. Each line is answered
 // as soon as its end is there, and before the next read, since a person waits for it. What a line means stands
 // in crate lines, what a call gives in crate model; the words of an answer stand in module say.
@@ -155,7 +155,7 @@ fn end<W: Write>(
     Held::Stop
 }
 
-// Reads once, and answers the lines that ended.
+// Reads once, and answers the lines that ended. A read that fails is the end of the input.
 fn turn<R: Read, W: Write>(
     input: &mut R,
     output: &mut W,
