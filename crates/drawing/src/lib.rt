@@ -5,7 +5,7 @@
 // and leaves, for all inputs and all refusals, is one promise of crate model (specs/Calls), and two
 // outcomes that meet a promise are equal (proofs/Unique). From make on every call keeps the arena sound (proofs/Runs).
 //
-// The calls stand in make, allocate, ask, references, plain and collect; place is for the C face. What they share stands in look
+// The calls stand in make, allocate, ask, reference, plain and collect; place is for the C face. What they share stands in look
 // (handles of a judged arena), fields (a block's own words), put (one word changed) and rooms; no other crate
 // can call it.
 
@@ -20,5 +20,5 @@ pub mod make;
 pub mod place;
 pub mod plain;
 mod put;
-pub mod references;
+pub mod reference;
 mod rooms;

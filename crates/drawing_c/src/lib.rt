@@ -18,7 +18,7 @@ use drawing::collect::collect;
 use drawing::make::make;
 use drawing::place::plain_place;
 use drawing::plain::{read_plain, write_plain};
-use drawing::references::{read_reference, write_reference};
+use drawing::reference::{read_reference, write_reference};
 use model::Handle;
 use words::slices::wide;
 

@@ -18,7 +18,7 @@ ghost use Rattle.typed.specs.Orders.{Obeyed, Answered};
 use drawing::allocate::allocate;
 use drawing::collect::collect;
 use drawing::make::make;
-use drawing::references::write_reference;
+use drawing::reference::write_reference;
 use lines::{Order, read_line};
 use model::{Allocated, Collected, Handle, Written};
 use std::io::{Read, Write};

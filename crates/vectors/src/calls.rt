@@ -3,7 +3,7 @@ use crate::print;
 use drawing::allocate::allocate;
 use drawing::collect::collect;
 use drawing::make::make;
-use drawing::{ask, plain, references};
+use drawing::{ask, plain, reference};
 use model::{Allocated, Handle};
 use std::io;
 
@@ -48,7 +48,7 @@ pub fn has_room(rt: &impl Print, arena: &[u32], class: u32) -> io::Result<()> {
 pub fn reads_reference(rt: &impl Print, arena: &[u32], h: u32, f: u32) -> io::Result<()> {
     print::number(
         rt,
-        numbers::read(references::read_reference(arena, Handle(h), f)),
+        numbers::read(reference::read_reference(arena, Handle(h), f)),
     )
 }
 
@@ -61,7 +61,7 @@ pub fn writes_reference(
 ) -> io::Result<()> {
     print::number(
         rt,
-        numbers::written(references::write_reference(arena, Handle(h), f, v)),
+        numbers::written(reference::write_reference(arena, Handle(h), f, v)),
     )
 }
 

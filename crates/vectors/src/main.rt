@@ -4,7 +4,7 @@
 use drawing::ask::shape;
 use drawing::collect::collect;
 use drawing::make::make;
-use drawing::references::write_reference;
+use drawing::reference::write_reference;
 use model::{Collected, Handle, Shaped};
 use std::io;
 use words::slices::wide;

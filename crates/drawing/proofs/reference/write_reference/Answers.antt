@@ -1,4 +1,4 @@
--- `drawing::references::write_reference` keeps its promise. Assumes nothing.
+-- `drawing::reference::write_reference` keeps its promise. Assumes nothing.
 use Prim.Native.Nat.{◌+◌}
 use native.Mathlib.Omega.{arith}
 use mathlib.Core.List.{[], ◌∷◌}
@@ -13,7 +13,7 @@ use Rattle.drawing.proofs.LookLaws.{not_sound, is_ruled, not_taken, is_there}
 use Rattle.drawing.proofs.Outcomes.{refused, granted_words}
 use Rattle.drawing.proofs.PutLaws.{put_at}
 use Rattle.drawing.proofs.Refusals.{block_unsound, block_untaken, block_taken, fails, holds}
-use Rattle.drawing.proofs.references.write_reference.Goals as goal
+use Rattle.drawing.proofs.reference.write_reference.Goals as goal
 
 pub judge-requires : goal.judge-requires
 judge-requires c = zero_row

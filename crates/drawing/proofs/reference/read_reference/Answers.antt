@@ -1,4 +1,4 @@
--- `drawing::references::read_reference` keeps its promise. Assumes nothing.
+-- `drawing::reference::read_reference` keeps its promise. Assumes nothing.
 use mathlib.Core.List.{List, [], ◌∷◌}
 use mathlib.Core.Path.{refl, ap, ◌∙◌}
 use lib.Dec.{ltb}
@@ -8,7 +8,7 @@ use Rattle.drawing.specs.Fields.{field_read}
 use Rattle.drawing.proofs.LookLaws.{not_sound, is_ruled, not_taken, is_there}
 use Rattle.drawing.proofs.Outcomes.{refused}
 use Rattle.drawing.proofs.Refusals.{block_unsound, block_untaken, field_outcome}
-use Rattle.drawing.proofs.references.read_reference.Goals as goal
+use Rattle.drawing.proofs.reference.read_reference.Goals as goal
 
 pub judge-requires : goal.judge-requires
 judge-requires c = zero_row
