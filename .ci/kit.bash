@@ -1,5 +1,4 @@
-# Sourced by hand, tests/run and benches/run: programs for x86-64, compiled, linked and run with the kit's own tools,
-# whatever the machine. On another processor the kit's emulator runs them.
+# Sourced by hand, tests/typed, tests/run and benches/run: the hand program and the C library, proved and built by the kit.
 
 need() { # COMMAND...
     local command
@@ -9,21 +8,15 @@ need() { # COMMAND...
 }
 
 need rt
-kit=${RATTLE_HOME:-$(cd "$(dirname "$(readlink -f "$(command -v rt)")")/.." && pwd -P)}/on/$(uname -m)
-tools=$kit/toolchain
 
-compile() { # SOURCE OBJECT
-    # the kit has no headers: the machine's own serve, since of these only types common to both are used
-    "$tools/bin/clang" --target=x86_64-unknown-linux-gnu -O2 -Wall -Wextra -Werror -isystem "$(gcc -print-file-name=include)" \
-        -isystem "/usr/include/$(gcc -dumpmachine)" -isystem /usr/include -c "$1" -o "$2"
+store=crates/store/out/store
+library=crates/drawing_c/out/libdrawing_c.a
+
+# Each builds its file; first what is not proved yet is proved.
+build_store() {
+    (cd crates/store && rt run </dev/null)
 }
 
-link() { # PROGRAM FILE...
-    local program=$1
-    shift
-    "$kit/bin/rattle-link" --target x86_64-unknown-linux-gnu --toolchain "$tools" -o "$program" "$@"
+build_library() {
+    (cd crates/drawing_c && rt lib)
 }
-
-# the words of the command that runs a program
-runner=("$tools/lib/ld-linux-x86-64.so.2" --library-path "$tools/lib")
-if [ -x "$tools/bin/qemu-x86_64" ]; then runner=("$tools/bin/qemu-x86_64" "${runner[@]}"); fi
