@@ -15,7 +15,7 @@
 //! ```
 //!
 //! Nothing needs checking before a call, and a refused call alters nothing. The crate links `libdrawing_c.a`, which
-//! `rt staticlib drawing_c` writes: `rustc -L target/staticlib -l static=drawing_c`.
+//! `rt lib` in crates/drawing_c writes: `rustc -L crates/drawing_c/out -l static=drawing_c`.
 
 mod face {
     extern "C" {
