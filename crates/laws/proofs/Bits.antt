@@ -127,6 +127,7 @@ bit_op op f g step shr table v w b =
     rw (shr v w b, step (v / 2 ^ b) (w / 2 ^ b), mul-add-mod_self_right)
     (ap₂ (λ (d e : ℕ). eqb (f d e % 2) 1) (sym (one_if_digit (v / 2 ^ b))) (sym (one_if_digit (w / 2 ^ b))) ∙ table (bit v b) (bit w b))
 
+-- of two digits the less is 1 where both are, the greater where one is
 digit_and : (t u : Bool) → eqb (min (one_if t) (one_if u) % 2) 1 ≡ (t && u)
 digit_and true true = refl
 digit_and true false = refl
