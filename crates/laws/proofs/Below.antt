@@ -25,7 +25,7 @@ up_to P {n} last rest k h = go (eq-or-lt_of_le (le_of_suc-le-suc h))
     go (inl e) = subst P (sym e) last
     go (inr l) = rest k l
 
--- ---- all-below
+-- ---- all_below
 
 pub all_below_step : (n : ℕ) (p : ℕ → Bool) → all_below (n + 1) p ≡ (all_below n p && p n)
 unfolding all_below
@@ -74,7 +74,7 @@ all_below_add a (suc n) p = rw (add-suc, ← and_assoc) (ap (λ (t : Bool). t &&
 pub all_below_split : (a n : ℕ) (p : ℕ → Bool) → a ≤ n → all_below n p ≡ (all_below a p && all_below (n - a) (λ k. p (a + k)))
 all_below_split a n p h = rw (← all_below_add a (n - a) p, add-sub_of_le)
 
--- ---- first-from
+-- ---- first_from
 
 -- r is the first of the n numbers from a on that passes p, or a + n where none does
 pub record First (a n : ℕ) (p : ℕ → Bool) (r : ℕ) : Type 0 where
@@ -159,7 +159,7 @@ sum_below_change (suc n) f g j l h = go (eq-or-lt_of_le (le_of_suc-le-suc l)) (�
     go (inl e) rest = rw e (omega (arith, sum_below_ext n f g (λ k u. h k (omega arith) (omega arith))))
     go (inr u) rest = omega (arith, rest u, h n (le_refl (suc n)) (omega arith))
 
--- ---- count-below
+-- ---- count_below
 
 pub count_below_step : (n : ℕ) (p : ℕ → Bool) → count_below (n + 1) p ≡ count_below n p + one_if (p n)
 unfolding count_below
@@ -244,7 +244,7 @@ unfolding count_below sum_below
 count_below_product zero n p = rw zero-mul
 count_below_product (suc m) n p = rw (suc-mul, count_below_add) (ap (λ (c : ℕ). c + count_below n (λ k. p (m * n + k))) (count_below_product m n p))
 
--- ---- lists-below
+-- ---- lists_below
 
 pub lists_below_ext : (n : ℕ) (f g : ℕ → List ℕ) → ((k : ℕ) → k < n → f k ≡ g k) → lists_below n f ≡ lists_below n g
 unfolding lists_below
