@@ -8,16 +8,8 @@ use Rattle.model.specs.Layout.{arena_length, arena_head, place_at, place_word, r
 use Rattle.model.specs.View.{segments, class, rank, members, ranked, n_in, r_in, reference_in, plain_in, plain_words_in, offset, block}
 use Rattle.model.specs.Standing.{in_pool, taken_at, is_taken, none_or_taken, taken_count, shape_of, standing_of}
 use Rattle.model.specs.Sound.{sound}
-use Rattle.model.specs.Numbers.{Paper, paper, refuse, granted, shape_values, standing_values, made_paper, allocated_paper, stood_paper, shaped_paper, read_paper, written_paper, room_paper, collected_paper}
+use Rattle.model.specs.Numbers.{Paper, paper, refuse, granted, shape_values, standing_values, Made, Allocated, Stood, Shaped, Read, Written, Room, Collected, made_paper, allocated_paper, stood_paper, shaped_paper, read_paper, written_paper, room_paper, collected_paper}
 use Rattle.model.specs.Ways.{Listing, drawing, listed}
-use Rattle.model.specs.declared.Made.{Made}
-use Rattle.model.specs.declared.Allocated.{Allocated}
-use Rattle.model.specs.declared.Stood.{Stood}
-use Rattle.model.specs.declared.Shaped.{Shaped}
-use Rattle.model.specs.declared.Read.{Read}
-use Rattle.model.specs.declared.Written.{Written}
-use Rattle.model.specs.declared.Room.{Room}
-use Rattle.model.specs.declared.Collected.{Collected}
 
 -- What a call gives and leaves: its answer is refusal number e or the values of a grant, and the words are those of the grant, or as before.
 -- "All lent memory stands as before."

@@ -1,25 +1,12 @@
 -- Refusal numbers: what each answer is on the document's paper, its refusal number (0 for a grant) and the values returned.
 -- Assumes nothing.
-use Rattle.std.specs.Prelude.{ℕ, Bool, cond, List, [], ◌∷◌, map, eqb}
+use Rattle.std.specs.Prelude.{ℕ, Bool, cond, List, [], ◌∷◌, map, replicate, eqb, ⊤, Result, Ok, Err}
 use Rattle.model.specs.declared.Shape.{Shape}
 use Rattle.model.specs.declared.Standing.{Standing}
 use Rattle.model.specs.declared.Standing.TheVariants.{None, Outside, Free, Taken}
-use Rattle.model.specs.declared.Made.{Made}
-use Rattle.model.specs.declared.Made.TheVariants as made
-use Rattle.model.specs.declared.Allocated.{Allocated}
-use Rattle.model.specs.declared.Allocated.TheVariants as allocated
-use Rattle.model.specs.declared.Stood.{Stood}
-use Rattle.model.specs.declared.Stood.TheVariants as stood
-use Rattle.model.specs.declared.Shaped.{Shaped}
-use Rattle.model.specs.declared.Shaped.TheVariants as shaped
-use Rattle.model.specs.declared.Read.{Read}
-use Rattle.model.specs.declared.Read.TheVariants as read
-use Rattle.model.specs.declared.Written.{Written}
-use Rattle.model.specs.declared.Written.TheVariants as written
-use Rattle.model.specs.declared.Room.{Room}
-use Rattle.model.specs.declared.Room.TheVariants as room
-use Rattle.model.specs.declared.Collected.{Collected}
-use Rattle.model.specs.declared.Collected.TheVariants as collected
+use Rattle.model.specs.declared.Handle.{Handle}
+use Rattle.model.specs.declared.Refusal.{Refusal}
+use Rattle.model.specs.declared.Refusal.TheVariants.{BadSize, Unsound, BadShape, NoRoom, NoBlock, NoField, BadReference, BadRoot, ShortList}
 
 -- an answer on paper
 pub record Paper : Type 0 where
@@ -48,45 +35,76 @@ standing_values Outside = 1 ∷ 0 ∷ 0 ∷ 0 ∷ []
 standing_values Free = 2 ∷ 0 ∷ 0 ∷ 0 ∷ []
 standing_values (Taken s) = 3 ∷ shape_values s
 
+-- the document's number of each refusal
+abbrev pub refusal_number : Refusal → ℕ
+refusal_number BadSize = 1
+refusal_number Unsound = 2
+refusal_number BadShape = 3
+refusal_number NoRoom = 4
+refusal_number NoBlock = 5
+refusal_number NoField = 6
+refusal_number BadReference = 7
+refusal_number BadRoot = 8
+refusal_number ShortList = 9
+
+-- the number of an answer, 0 for a grant
+abbrev pub answer_number : {A : Type 0} → Result A Refusal → ℕ
+answer_number (Ok v) = granted
+answer_number (Err e) = refusal_number e
+
+-- its values, given those of a grant; on a refusal as many zeros
+abbrev pub answer_values : {A : Type 0} → (A → List ℕ) → ℕ → Result A Refusal → List ℕ
+answer_values values count (Ok v) = values v
+answer_values values count (Err e) = replicate count 0
+
+abbrev pub on_paper : {A : Type 0} → (A → List ℕ) → ℕ → Result A Refusal → Paper
+on_paper values count a = record { number = answer_number a; values = answer_values values count a }
+
+-- The answers: of make and of a write nothing, of allocate a handle, of a read its word, of room and collect a number.
+abbrev pub Made : Type 0
+Made = Result ⊤ Refusal
+
+abbrev pub Allocated : Type 0
+Allocated = Result Handle Refusal
+
+abbrev pub Stood : Type 0
+Stood = Result Standing Refusal
+
+abbrev pub Shaped : Type 0
+Shaped = Result Shape Refusal
+
+abbrev pub Read : Type 0
+Read = Result ℕ Refusal
+
+abbrev pub Written : Type 0
+Written = Result ⊤ Refusal
+
+abbrev pub Room : Type 0
+Room = Result ℕ Refusal
+
+abbrev pub Collected : Type 0
+Collected = Result ℕ Refusal
+
 abbrev pub made_paper : Made → Paper
-made_paper made.Fresh = record { number = 0; values = [] }
-made_paper made.BadSize = record { number = 1; values = [] }
+made_paper = on_paper (λ u. []) 0
 
 abbrev pub allocated_paper : Allocated → Paper
-allocated_paper (allocated.Block h) = record { number = 0; values = h.0 ∷ [] }
-allocated_paper allocated.Unsound = record { number = 2; values = 0 ∷ [] }
-allocated_paper allocated.BadShape = record { number = 3; values = 0 ∷ [] }
-allocated_paper allocated.NoRoom = record { number = 4; values = 0 ∷ [] }
+allocated_paper = on_paper (λ h. h.0 ∷ []) 1
 
 abbrev pub stood_paper : Stood → Paper
-stood_paper (stood.Is s) = record { number = 0; values = standing_values s }
-stood_paper stood.Unsound = record { number = 2; values = 0 ∷ 0 ∷ 0 ∷ 0 ∷ [] }
+stood_paper = on_paper standing_values 4
 
 abbrev pub shaped_paper : Shaped → Paper
-shaped_paper (shaped.Is s) = record { number = 0; values = shape_values s }
-shaped_paper shaped.Unsound = record { number = 2; values = 0 ∷ 0 ∷ 0 ∷ [] }
-shaped_paper shaped.NoBlock = record { number = 5; values = 0 ∷ 0 ∷ 0 ∷ [] }
+shaped_paper = on_paper shape_values 3
 
 abbrev pub read_paper : Read → Paper
-read_paper (read.Value v) = record { number = 0; values = v ∷ [] }
-read_paper read.Unsound = record { number = 2; values = 0 ∷ [] }
-read_paper read.NoBlock = record { number = 5; values = 0 ∷ [] }
-read_paper read.NoField = record { number = 6; values = 0 ∷ [] }
+read_paper = on_paper (λ v. v ∷ []) 1
 
 abbrev pub written_paper : Written → Paper
-written_paper written.Done = record { number = 0; values = [] }
-written_paper written.Unsound = record { number = 2; values = [] }
-written_paper written.NoBlock = record { number = 5; values = [] }
-written_paper written.NoField = record { number = 6; values = [] }
-written_paper written.BadReference = record { number = 7; values = [] }
+written_paper = on_paper (λ u. []) 0
 
 abbrev pub room_paper : Room → Paper
-room_paper (room.Blocks v) = record { number = 0; values = v ∷ [] }
-room_paper room.Unsound = record { number = 2; values = 0 ∷ [] }
-room_paper room.BadShape = record { number = 3; values = 0 ∷ [] }
+room_paper = on_paper (λ v. v ∷ []) 1
 
 abbrev pub collected_paper : Collected → Paper
-collected_paper (collected.Live c) = record { number = 0; values = c ∷ [] }
-collected_paper collected.Unsound = record { number = 2; values = 0 ∷ [] }
-collected_paper collected.BadRoot = record { number = 8; values = 0 ∷ [] }
-collected_paper collected.ShortList = record { number = 9; values = 0 ∷ [] }
+collected_paper = on_paper (λ c. c ∷ []) 1

@@ -6,20 +6,23 @@
 // A block as the caller knows it: segment x 2,048 + block index + 1. Handle 0 means none.
 #![tactic(auto)]
 
-#[derive(Clone, Copy)]
+ghost use Rattle.std.specs.Prelude.{◌≡◌};
+ghost use Rattle.model.specs.Numbers.{refusal_number};
+
+#[derive(Clone, Copy, Debug, PartialEq, Eq)]
 pub struct Handle(pub u32);
 
 // The place of a block among the blocks of its segment, from 0.
-#[derive(Clone, Copy)]
+#[derive(Clone, Copy, Debug, PartialEq, Eq)]
 pub struct BlockIndex(pub u32);
 
 // The place of a word in the arena, from 0.
-#[derive(Clone, Copy)]
+#[derive(Clone, Copy, Debug, PartialEq, Eq)]
 pub struct WordOffset(pub usize);
 
 // What a block's header says: the number of words after it, how many of those are references, and a
 // tag of the owner's choosing.
-#[derive(Clone, Copy)]
+#[derive(Clone, Copy, Debug, PartialEq, Eq)]
 pub struct Shape {
     pub n: u32,
     pub r: u32,
@@ -27,7 +30,7 @@ pub struct Shape {
 }
 
 // What stands behind a handle.
-#[derive(Clone, Copy)]
+#[derive(Clone, Copy, Debug, PartialEq, Eq)]
 pub enum Standing {
     None,
     Outside,
@@ -35,69 +38,24 @@ pub enum Standing {
     Taken(Shape),
 }
 
-// The answer of make.
-#[derive(Clone, Copy)]
-pub enum Made {
-    Fresh,
-    BadSize,
-}
-
-// The answer of allocate.
-#[derive(Clone, Copy)]
-pub enum Allocated {
-    Block(Handle),
+// Why a call is refused: the refusal numbers of document 01, from 1 on.
+#[derive(Clone, Copy, Debug, PartialEq, Eq)]
+pub enum Refusal {
+    BadSize = 1,
     Unsound,
     BadShape,
     NoRoom,
-}
-
-// The answer of standing.
-#[derive(Clone, Copy)]
-pub enum Stood {
-    Is(Standing),
-    Unsound,
-}
-
-// The answer of shape.
-#[derive(Clone, Copy)]
-pub enum Shaped {
-    Is(Shape),
-    Unsound,
-    NoBlock,
-}
-
-// The answer of reading a reference or a plain word.
-#[derive(Clone, Copy)]
-pub enum Read {
-    Value(u32),
-    Unsound,
-    NoBlock,
-    NoField,
-}
-
-// The answer of writing a reference or a plain word.
-#[derive(Clone, Copy)]
-pub enum Written {
-    Done,
-    Unsound,
     NoBlock,
     NoField,
     BadReference,
-}
-
-// The answer of room.
-#[derive(Clone, Copy)]
-pub enum Room {
-    Blocks(u32),
-    Unsound,
-    BadShape,
-}
-
-// The answer of collect.
-#[derive(Clone, Copy)]
-pub enum Collected {
-    Live(u32),
-    Unsound,
     BadRoot,
     ShortList,
+}
+
+impl From<Refusal> for u32 {
+    ghost from_gives = { λ e n. n ≡ refusal_number e };
+
+    fn from(e: Refusal) -> u32 {
+        e as u32
+    }
 }
