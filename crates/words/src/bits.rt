@@ -1,5 +1,5 @@
 // Bits of a word, counted from the least significant: what bitmaps are made of.
-ghost use Rattle.std.specs.Prelude.{◌≡◌, not, ◌||◌, ◌-◌, ◌<◌, ◌≤◌, eqb};
+ghost use Rattle.std.specs.Prelude.{◌≡◌, not, ◌||◌, ◌-◌, ◌<◌, ◌≤◌, eqb, leb};
 ghost use Rattle.model.specs.Below.{count_below, first_from};
 ghost use Rattle.model.specs.Word.{bit, word_of_bits};
 
@@ -16,6 +16,13 @@ pub fn with_bit(w: u32, b: u32) -> u32
     ensures { result ≡ word_of_bits (λ j. eqb j b || bit w j) }
 {
     w | (1 << b)
+}
+
+// The word that is 1 from bit n on.
+pub fn ones_from(n: u32) -> u32
+    ensures { result ≡ word_of_bits (λ b. leb n b) }
+{
+    u32::MAX.unbounded_shl(n)
 }
 
 // The first bit at or after b that is 0, and 32 where there is none.
