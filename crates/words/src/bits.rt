@@ -33,12 +33,12 @@ pub fn first_free(w: u32, b: u32) -> u32
     if b == 32 {
         return 32;
     }
-    b + u32::trailing_zeros(!(w >> b))
+    b + (!(w >> b)).trailing_zeros()
 }
 
 // How many bits are 1.
 pub fn ones(w: u32) -> u32
     ensures { result ≡ count_below 32 (bit w) }
 {
-    u32::count_ones(w)
+    w.count_ones()
 }
