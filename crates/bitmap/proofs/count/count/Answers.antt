@@ -37,7 +37,7 @@ returns c =
     let rec = c.args.rec.now in
     let i = c.args.class in
     let p = c.requires in
-    let words : 1 + c.wide-end.result - 1 ≡ blocks i / 32 = omega arith in
+    let words : c.blocks-n.result / 32 + 1 - 1 ≡ blocks i / 32 = omega arith in
     rw words at c.ones_in.ensures
     ∙ count_in_part rec (blocks i / 32) (omega (arith, blocks_most i p.class))
     ∙ ap (λ (n : ℕ). count_below n (bit_in rec)) (sym (whole_words i p.class (omega arith)))

@@ -2,9 +2,10 @@
 -- Assumes nothing.
 use Prim.Native.Nat.{ℕ}
 use native.Mathlib.Omega.{arith}
-use mathlib.Core.Path.{ap, ap₂, ◌∙◌}
+use mathlib.Core.Path.{◌≡◌, ap, ap₂, ◌∙◌}
 use mathlib.Core.List.{List}
-use lib.ListN.{set, replicate}
+use lib.ListN.{length, set, replicate}
+use borrow.Author.Rules.{rules}
 use Rattle.words.proofs.ClassLaws.{class_bounds}
 use Rattle.bitmap.proofs.fresh.head_only.Goals as goal
 
@@ -15,6 +16,7 @@ record_head-requires c =
 
 pub returns : goal.returns
 returns c =
+    let zeros : c.fill.new.self ≡ replicate (length c.args.rec.now) 0 = search rules in
     ap₂ (λ (l : List ℕ) (v : ℕ). set l 0 v)
-    (c.clear.ensures ∙ ap (λ (n : ℕ). replicate n 0) c.requires.long)
+    (zeros ∙ ap (λ (n : ℕ). replicate n 0) c.requires.long)
     c.record_head.ensures
