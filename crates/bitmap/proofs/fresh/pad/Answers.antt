@@ -7,21 +7,12 @@ use mathlib.Core.Bool.{true}
 use mathlib.Core.Logic.{◌≢◌}
 use lib.ListN.{set}
 use lib.Dec.{leb}
-use borrow.Author.Tests.{lt-ltb, le-ltb}
+use borrow.Author.Tests.{lt-ltb}
 use Rattle.model.specs.Word.{word_of_bits}
 use Rattle.model.specs.Class.{is_class, level_words, level_end}
-use Rattle.words.proofs.ClassLaws.{class_bounds}
 use Rattle.bitmap.proofs.LevelLaws.{words_room, words_begin}
 use Rattle.bitmap.proofs.FreshLaws.{padding_is}
 use Rattle.bitmap.proofs.fresh.pad.Goals as goal
-
-pub level_words-words-requires : goal.level_words-words-requires
-level_words-words-requires c = omega (arith, class_bounds c.args.class c.requires.class)
-
-pub returns-then-words-eq0 : goal.returns-then-words-eq0
-returns-then-words-eq0 c =
-    let none = c.level_words-words.ensures in
-    rw (le-ltb 0 (level_words c.args.class c.args.level) (omega arith))
 
 -- the last word begins before the level's end
 begins : (i l n end : ℕ) → is_class i ≡ true → l < 3 → n ≢ 0 → n ≡ level_words i l → end ≡ level_end i l → 32 * (n - 1) ≤ end
