@@ -18,7 +18,7 @@ use Rattle.model.specs.View.{bit_in}
 use Rattle.laws.proofs.Below.{First, first_is, first_unique}
 use Rattle.laws.proofs.Bits.{full_bit, free_bit}
 use Rattle.bitmap.specs.Tree.{Search, level_bit, before_end}
-use Rattle.bitmap.proofs.LevelLaws.{level_set, level_word_lt, words_room, words_hold, words_next, levels_le, used_level, unused_level}
+use Rattle.bitmap.proofs.LevelLaws.{used_one, level_set, level_word_lt, words_room, words_hold, words_next, used_level, unused_level}
 use Rattle.bitmap.proofs.RecordLaws.{right_level, level_bit_is}
 
 -- the free bits of a word, and of a level
@@ -72,7 +72,7 @@ same_level x k same e = rw (sym same.0, sym same.1, sym same.2) e
 
 module _ {rec : List ℕ} {i l k : ℕ} (s : Search rec i l k) where
   pub l<3 : l < 3
-  l<3 = omega (arith, levels_le i s.class, s.level)
+  l<3 = used_one i l s.class s.level
 
   used : 0 < level_words i l
   used = used_level i l s.class (omega (arith, s.level))
@@ -105,7 +105,7 @@ module _ {rec : List ℕ} {i l k : ℕ} (s : Search rec i l k) where
   next_bit : (j : ℕ) → suc l < levels i → j < level_words i l → level_bit rec (suc l) j ≡ full (word rec (level_at l + j))
   unfolding level_end
   next_bit j more h =
-      let l+1<3 : suc l < 3 = omega (arith, levels_le i s.class, s.level) in
+      let l+1<3 : suc l < 3 = used_one i (suc l) s.class more in
       let above : 0 < level_words i (suc l) = used_level i (suc l) s.class more in
       level_bit_is i (bit_in rec) rec (suc l) s.class l+1<3 (right_level i rec s.right (suc l) l+1<3) j
       (omega (arith, words_hold i (suc l) s.class l+1<3 above))

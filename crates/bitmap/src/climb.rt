@@ -24,11 +24,8 @@ fn climb(rec: &mut [u32], level: u32, left: u32, k: u32)
     requires { BitOf rec.old level left k }
     ensures { rec.new ≡ climbed left level k rec.old }
 {
-    let full = set_level_bit(rec, level, k);
-    if full {
-        if 0 < left {
-            climb(rec, level + 1, left - 1, k / 32);
-        }
+    if set_level_bit(rec, level, k) && 0 < left {
+        climb(rec, level + 1, left - 1, k / 32);
     }
 }
 
