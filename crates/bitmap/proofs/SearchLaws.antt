@@ -7,19 +7,29 @@ use native.Mathlib.Decide.{dec_lt, ℕ_discrete}
 use mathlib.Core.Path.{◌≡◌, refl, sym, ap, ◌∙◌}
 use mathlib.Core.Bool.{Bool, true, false, cond, not, ◌||◌, true≢false}
 use mathlib.Core.List.{List}
+use lib.ListN.{length}
 use lib.Dec.{ltb}
 use Rattle.std.specs.Prelude.{Option, Some, None, unwrap_or}
 use borrow.Author.Tests.{lt-leb, le-leb, lt-ltb, le-ltb, ltb-true, ltb-false, not-true, not-false}
 use Rattle.model.specs.Below.{first_from}
 use Rattle.model.specs.Word.{word, bit, full}
-use Rattle.model.specs.Class.{level_words, level_end, levels}
+use Rattle.model.specs.Class.{is_class, level_words, level_end, levels}
 use Rattle.model.specs.Layout.{level_at, level_room, level_word}
 use Rattle.model.specs.View.{bit_in}
+use Rattle.model.specs.Sound.{levels_right}
 use Rattle.laws.proofs.Below.{First, first_is, first_unique}
 use Rattle.laws.proofs.Bits.{full_bit, free_bit}
-use Rattle.bitmap.specs.Tree.{Search, level_bit, before_end}
+use Rattle.bitmap.specs.Tree.{level_bit, before_end}
 use Rattle.bitmap.proofs.LevelLaws.{used_one, level_set, level_word_lt, words_room, words_hold, words_next, used_level, unused_level}
 use Rattle.bitmap.proofs.RecordLaws.{right_level, level_bit_is}
+
+-- a record whose levels are right, a level that its class uses, and a place that may be the level's end
+pub record Search (rec : List ℕ) (i l k : ℕ) : Type 0 where
+  pub long : length rec ≡ 68
+  pub class : is_class i ≡ true
+  pub right : levels_right i rec ≡ true
+  pub level : l < levels i
+  pub inside : k ≤ level_end i l
 
 -- the free bits of a word, and of a level
 abbrev free : ℕ → ℕ → Bool
