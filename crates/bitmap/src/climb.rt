@@ -16,19 +16,17 @@ fn set_level_bit(rec: &mut [u32], level: u32, k: u32) -> bool
     let at = word_at(level, k / 32);
     let w = with_bit(rec[at], k % 32);
     rec[at] = w;
-    w == 0xFFFF_FFFF
+    w == u32::MAX
 }
 
-// Sets a bit and climbs to the next of the levels that are left only when the word has become full.
+// Sets a bit and climbs to the next of the levels that are left only when the word has become full. No type holds the
+// parameters with what is asked of them: Rattle covers no ghost field beside a `&mut`.
 fn climb(rec: &mut [u32], level: u32, left: u32, k: u32)
     requires { BitOf rec.old level left k }
     ensures { rec.new ≡ climbed left level k rec.old }
 {
-    let full = set_level_bit(rec, level, k);
-    if full {
-        if 0 < left {
-            climb(rec, level + 1, left - 1, k / 32);
-        }
+    if set_level_bit(rec, level, k) && 0 < left {
+        climb(rec, level + 1, left - 1, k / 32);
     }
 }
 
