@@ -19,8 +19,8 @@ fn set_level_bit(rec: &mut [u32], level: u32, k: u32) -> bool
     w == u32::MAX
 }
 
-// Sets a bit and climbs to the next of the levels that are left only when the word has become full. No type holds the
-// parameters with what is asked of them: Rattle covers no ghost field beside a `&mut`.
+// Sets a bit and climbs to the next of the levels that are left only when the word has become full. A type that holds the
+// parameters would be no plainer: one function makes them, and one other takes them.
 fn climb(rec: &mut [u32], level: u32, left: u32, k: u32)
     requires { BitOf rec.old level left k }
     ensures { rec.new ≡ climbed left level k rec.old }
