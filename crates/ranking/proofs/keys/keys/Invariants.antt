@@ -1,5 +1,5 @@
--- `ranking::keys::keys` meets its contract. The loop's invariant: the keys of the segments passed stand in the row. Assumes nothing.
-use Prim.Native.Nat.{ℕ, ◌-◌, ◌≤◌, ◌<◌}
+-- The invariant of `ranking::keys::keys`'s loop: the keys of the segments passed stand in the row. Assumes nothing.
+use Prim.Native.Nat.{ℕ, ◌<◌}
 use mathlib.Core.Path.{◌≡◌}
 use lib.ListN.{length}
 use Rattle.model.specs.Word.{word}
@@ -9,7 +9,4 @@ use Rattle.ranking.specs.Keys.{key_of}
 use Rattle.ranking.proofs.keys.keys.Given as goal
 
 abbrev pub invariant-loop-s : goal.invariant-loop-s
-invariant-loop-s l = (l.s ≤ l.n) × (length l.keys ≡ 64) × ((t : ℕ) → t < l.s → word l.keys t ≡ key_of (class l.arena t) (group_of (class l.arena t) (word l.lives t)) (rank l.arena t))
-
-abbrev pub decreases-loop-s : goal.decreases-loop-s
-decreases-loop-s l = l.n - l.s
+invariant-loop-s l = (length l.keys ≡ 64) × ((t : ℕ) → t < l.s → word l.keys t ≡ key_of (class l.arena t) (group_of (class l.arena t) (word l.lives t)) (rank l.arena t))
