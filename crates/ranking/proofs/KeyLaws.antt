@@ -9,11 +9,12 @@ use native.Mathlib.Nat.{add-zero, zero-add}
 use native.Mathlib.Numerals.{add-one}
 use native.Mathlib.Decide.{dec_lt}
 use native.Mathlib.Omega.{arith}
+use mir.Val.{bool_byte}
 use lib.ListN.{length, take}
 use lib.Dec.{eqb, leb, ltb}
 use borrow.Author.Tests.{eqb-true, eqb-false, eq-eqb, leb-true, le-leb, lt-leb, ltb-true, lt-ltb, le-ltb, not-true}
-use Rattle.std.proofs.Common.{count_by}
-use Rattle.std.proofs.lemmas.List.Sums.{count_by_more_yes, count_by_more_no}
+use Rattle.std.specs.List.{sum_by}
+use Rattle.std.proofs.lemmas.List.Sums.{sum_by_more}
 use Rattle.model.specs.Below.{one_if, count_below}
 use Rattle.model.specs.Word.{word}
 use Rattle.model.specs.View.{segments, class, rank}
@@ -32,16 +33,18 @@ pub keys_in_le : (keys : List ℕ) (n a b : ℕ) → keys_in keys n a b ≤ n
 unfolding keys_in
 keys_in_le keys n a b = count_below_le n (λ t. between a b (word keys t))
 
--- those that a count of the first n keys finds
-pub keys_counted : (keys : List ℕ) (a b n : ℕ) → n ≤ length keys → count_by (between a b) (take n keys) ≡ keys_in keys n a b
+-- the sum of a 1 for each of the first n keys that lie there
+pub keys_summed : (keys : List ℕ) (a b n : ℕ) → n ≤ length keys → sum_by (λ k. bool_byte (between a b k)) (take n keys) ≡ keys_in keys n a b
 unfolding keys_in count_below
-keys_counted keys a b zero l = refl
-keys_counted keys a b (suc n) l = go (between a b (word keys n)) refl (keys_counted keys a b n (omega arith))
+keys_summed keys a b zero l = refl
+keys_summed keys a b (suc n) l =
+    let f : ℕ → ℕ = λ k. bool_byte (between a b k) in
+    ap (λ (m : ℕ). sum_by f (take m keys)) (sym (add-one n)) ∙ sum_by_more f keys n 0 (omega arith)
+    ∙ ap₂ ◌+◌ (keys_summed keys a b n (omega arith)) (one (between a b (word keys n)))
   where
-    go : (t : Bool) → between a b (word keys n) ≡ t → count_by (between a b) (take n keys) ≡ count_below n (λ t. between a b (word keys t))
-        → count_by (between a b) (take (suc n) keys) ≡ count_below n (λ t. between a b (word keys t)) + one_if (between a b (word keys n))
-    go true e before = rw (← add-one n, e) (count_by_more_yes (between a b) keys n 0 (omega arith) e ∙ ap (λ (k : ℕ). k + 1) before)
-    go false e before = rw (← add-one n, e, add-zero) (count_by_more_no (between a b) keys n 0 (omega arith) e ∙ before)
+    one : (t : Bool) → bool_byte t ≡ one_if t
+    one true = refl
+    one false = refl
 
 pub rank_by_le : (keys : List ℕ) (n own : ℕ) → rank_by keys n own ≤ n
 unfolding rank_by

@@ -53,13 +53,14 @@ pub fn keys(arena: &[u32], lives: &[u32; 64]) -> [u32; 64]
     keys
 }
 
-// How many of the first n keys lie from `from` on and before `to`.
+// How many of the first n keys lie from `from` on and before `to`: a sum with no branch on what the keys are, which is
+// taken several keys at a time.
 pub fn keys_in(keys: &[u32; 64], n: u32, from: u32, to: u32) -> u32
     requires { n ≤ 64 }
     ensures { (result ≡ keys_in keys.now n from to) × (result ≤ 64) }
 {
     keys[..n as usize]
         .iter()
-        .filter(|&&key| from <= key && key < to)
-        .count() as u32
+        .map(|&key| (from <= key && key < to) as u32)
+        .sum()
 }
