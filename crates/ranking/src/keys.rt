@@ -1,10 +1,11 @@
 // The keys by which segments are ranked anew.
 //
 // A key is made of class, group and former rank, most significant first. So the segments of a class that stay
-// have their new order as the order of their keys, and a new rank is the number of such keys before its own.
+// have their new order as the order of their keys, and a new rank is the number of such keys before its own. A key
+// is one number, and no struct of three, since a rank is counted over all keys, several at a time.
 ghost use Rattle.std.specs.Prelude.{◌≡◌, ◌/◌, ◌%◌, ◌<◌, ◌≤◌};
 ghost use Rattle.model.specs.Word.{word};
-ghost use Rattle.model.specs.View.{class, rank};
+ghost use Rattle.model.specs.View.{segments, class, rank};
 ghost use Rattle.arena.specs.Inside.{Segment};
 ghost use Rattle.ranking.specs.Groups.{group_of, number};
 ghost use Rattle.ranking.specs.Keys.{Whole, key_of, Keys, keys_in};
@@ -41,16 +42,27 @@ fn key_of(arena: &[u32], lives: &[u32; 64], s: u32) -> u32
     key(i, group, rank(arena, s))
 }
 
-pub fn keys(arena: &[u32], lives: &[u32; 64]) -> [u32; 64]
-    requires { Whole arena.now }
-    ensures { Keys arena.now lives.now result }
-{
-    let n = segments(arena);
-    let mut keys = [0; 64];
-    for s in 0..n {
-        keys[s as usize] = key_of(arena, lives, s);
+// The keys of the n segments of an arena.
+#[derive(Drop)]
+pub struct Keyed {
+    pub n: u32,
+    pub keys: [u32; 64],
+    ghost few: { n ≤ 64 },
+}
+
+impl Keyed {
+    pub fn of(arena: &[u32], lives: &[u32; 64]) -> Keyed
+        requires { Whole arena.now }
+        ensures all { result.n ≡ segments arena.now }
+        ensures keys { Keys arena.now lives.now result.keys }
+    {
+        let n = segments(arena);
+        let mut keys = [0; 64];
+        for s in 0..n {
+            keys[s as usize] = key_of(arena, lives, s);
+        }
+        Keyed { n, keys }
     }
-    keys
 }
 
 // How many of the first n keys lie from `from` on and before `to`: a sum with no branch on what the keys are, which is

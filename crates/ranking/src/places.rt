@@ -1,10 +1,10 @@
 // The new allocation places.
 ghost use Rattle.std.specs.Prelude.{◌≡◌, ◌≤◌};
 ghost use Rattle.model.specs.Word.{put};
-ghost use Rattle.ranking.specs.Places.{PlaceFor, place_for, place_by, PlaceOf, Places, WritePlaces};
+ghost use Rattle.ranking.specs.Places.{PlaceFor, place_for, place_by, Places, WritePlaces};
 
 use crate::groups::Group;
-use crate::keys::{key, keys_in};
+use crate::keys::{Keyed, key, keys_in};
 use std::array;
 use words::class::blocks;
 use words::fields::place;
@@ -24,22 +24,23 @@ fn place_for(class: u32, full: u32, m: u32) -> u32
     place(m - 1, blocks(class))
 }
 
-fn new_place(keys: &[u32; 64], n: u32, class: u32) -> u32
-    requires { PlaceOf n class }
-    ensures { result ≡ place_by keys.now n class }
-{
-    let first = key(class, Group::Full, 0);
-    let full = keys_in(keys, n, first, key(class, Group::Rest, 0));
-    let m = keys_in(keys, n, first, key(class + 1, Group::Pool, 0));
-    place_for(class, full, m)
-}
+impl Keyed {
+    fn new_place(&self, class: u32) -> u32
+        requires { (3 ≤ class) × (class ≤ 12) }
+        ensures { result ≡ place_by self.now.keys self.now.n class }
+    {
+        let first = key(class, Group::Full, 0);
+        let full = keys_in(&self.keys, self.n, first, key(class, Group::Rest, 0));
+        let m = keys_in(&self.keys, self.n, first, key(class + 1, Group::Pool, 0));
+        place_for(class, full, m)
+    }
 
-// The places of all classes, for the keys of n segments.
-pub fn new_places(keys: &[u32; 64], n: u32) -> [u32; 10]
-    requires { n ≤ 64 }
-    ensures { Places keys.now n result }
-{
-    array::from_fn(|c| new_place(keys, n, c as u32 + 3))
+    // The places of all classes.
+    pub fn new_places(&self) -> [u32; 10]
+        ensures { Places self.now.keys self.now.n result }
+    {
+        array::from_fn(|c| self.new_place(c as u32 + 3))
+    }
 }
 
 // Writes the ten words behind the arena's first.

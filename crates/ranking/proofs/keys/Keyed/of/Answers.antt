@@ -1,4 +1,4 @@
--- `ranking::keys::keys` meets its contract. Assumes nothing.
+-- `ranking::keys::Keyed::of` meets its contract. Assumes nothing.
 use Prim.Native.Nat.{ℕ}
 use mathlib.Core.List.{List}
 use native.Mathlib.Omega.{arith}
@@ -8,7 +8,7 @@ use Rattle.model.specs.Word.{word}
 use Rattle.model.specs.View.{class, rank}
 use Rattle.ranking.specs.Groups.{group_of}
 use Rattle.ranking.specs.Keys.{key_of}
-use Rattle.ranking.proofs.keys.keys.Goals as goal
+use Rattle.ranking.proofs.keys.Keyed.of.Goals as goal
 
 -- the key of segment t
 abbrev own : List ℕ → List ℕ → ℕ → ℕ
@@ -22,7 +22,7 @@ loop-s-preserved c =
       rw c.key_of.ensures (fill_by_more (own a.arena.now a.lives.now) x.keys x.s 0 (omega (arith, c.segments-n.ensures, c.requires.few)) x.invariant.1),
     )
 
-pub returns : goal.returns
-returns c =
+pub returns-clause-keys : goal.returns-clause-keys
+returns-clause-keys c =
     let x = c.loop-s in
     record { long = x.invariant.0; keyed = λ t l. x.invariant.1 t (omega (arith, c.segments-n.ensures)) }
