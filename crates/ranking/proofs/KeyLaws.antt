@@ -1,21 +1,26 @@
 -- The order of keys is the new order: counts of keys are the new ranks of a collection, and the numbers that its places follow from.
 -- Assumes nothing.
-use Prim.Native.Nat.{ℕ, ◌+◌, ◌/◌, ◌%◌, ◌≤◌, ◌<◌}
+use Prim.Native.Nat.{ℕ, zero, suc, ◌+◌, ◌/◌, ◌%◌, ◌≤◌, ◌<◌}
 use mathlib.Core.Path.{◌≡◌, refl, sym, ap, ap₂, ◌∙◌}
 use mathlib.Core.Logic.{◌≢◌}
 use mathlib.Core.Bool.{Bool, true, false, not, cond, ◌&&◌, and-true}
 use mathlib.Core.List.{List}
 use native.Mathlib.Nat.{add-zero, zero-add}
+use native.Mathlib.Numerals.{add-one}
 use native.Mathlib.Decide.{dec_lt}
 use native.Mathlib.Omega.{arith}
+use mir.Val.{bool_byte}
+use lib.ListN.{length, take}
 use lib.Dec.{eqb, leb, ltb}
 use borrow.Author.Tests.{eqb-true, eqb-false, eq-eqb, leb-true, le-leb, lt-leb, ltb-true, lt-ltb, le-ltb, not-true}
+use Rattle.std.specs.List.{sum_by}
+use Rattle.std.proofs.lemmas.List.Sums.{sum_by_more}
 use Rattle.model.specs.Below.{one_if, count_below}
 use Rattle.model.specs.Word.{word}
 use Rattle.model.specs.View.{segments, class, rank}
 use Rattle.model.specs.Standing.{in_pool}
 use Rattle.model.specs.Calls.{live, stays, stays_full, staying, staying_full, ranked_before, new_rank, new_place}
-use Rattle.laws.proofs.Below.{count_below_ext, count_below_le, count_below_step}
+use Rattle.laws.proofs.Below.{count_below_ext, count_below_le}
 use Rattle.soundness.proofs.Tests.{and_left, and_right, and_intro, same_test, not_passed}
 use Rattle.soundness.proofs.Ranks.{count_below_parts}
 use Rattle.ranking.specs.Groups.{pool, full, rest, group_of}
@@ -24,17 +29,22 @@ use Rattle.ranking.specs.Heads.{rank_by}
 use Rattle.ranking.specs.Places.{place_for, place_by}
 use Rattle.ranking.proofs.GroupLaws.{group_lt, not_not, stays_is, full_is, rest_is}
 
-pub one_if_le : (t : Bool) → one_if t ≤ 1
-one_if_le true = omega arith
-one_if_le false = omega arith
-
 pub keys_in_le : (keys : List ℕ) (n a b : ℕ) → keys_in keys n a b ≤ n
 unfolding keys_in
 keys_in_le keys n a b = count_below_le n (λ t. between a b (word keys t))
 
-pub keys_in_step : (keys : List ℕ) (n a b : ℕ) → keys_in keys (n + 1) a b ≡ keys_in keys n a b + one_if (between a b (word keys n))
-unfolding keys_in
-keys_in_step keys n a b = count_below_step n (λ t. between a b (word keys t))
+-- the sum of a 1 for each of the first n keys that lie there
+pub keys_summed : (keys : List ℕ) (a b n : ℕ) → n ≤ length keys → sum_by (λ k. bool_byte (between a b k)) (take n keys) ≡ keys_in keys n a b
+unfolding keys_in count_below
+keys_summed keys a b zero l = refl
+keys_summed keys a b (suc n) l =
+    let f : ℕ → ℕ = λ k. bool_byte (between a b k) in
+    ap (λ (m : ℕ). sum_by f (take m keys)) (sym (add-one n)) ∙ sum_by_more f keys n 0 (omega arith)
+    ∙ ap₂ ◌+◌ (keys_summed keys a b n (omega arith)) (one (between a b (word keys n)))
+  where
+    one : (t : Bool) → bool_byte t ≡ one_if t
+    one true = refl
+    one false = refl
 
 pub rank_by_le : (keys : List ℕ) (n own : ℕ) → rank_by keys n own ≤ n
 unfolding rank_by

@@ -238,10 +238,3 @@ module _ (rec : List ℕ) (head i : ℕ) (marks : List ℕ) (n : ℕ) (class : i
   pub all_passed : words_for (blocks i) ≤ n → rec ≡ head ∷ level_rows i (mark_in marks)
   all_passed all =
       made ∙ ap (λ (ws : List ℕ). head ∷ ws) (rows_ext i (passed marks n) (mark_in marks) (λ k l. ap (λ (t : Bool). t && mark_in marks k) (lt-ltb (k / 32) n (omega arith))))
-
--- none of them
-pub none_passed : (rec : List ℕ) (head i : ℕ) (marks : List ℕ) → rec ≡ head ∷ level_rows i (λ k. false) → rec ≡ word rec 0 ∷ level_rows i (passed marks 0)
-none_passed rec head i marks made =
-    made
-    ∙ ap₂ ◌∷◌ (sym (ap (λ (ws : List ℕ). word ws 0) made))
-    (rows_ext i (λ k. false) (passed marks 0) (λ k _. sym (ap (λ (t : Bool). t && mark_in marks k) (le-ltb (k / 32) 0 (omega arith)))))

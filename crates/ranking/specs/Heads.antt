@@ -1,6 +1,6 @@
 -- New ranks by keys, and the heads of the new records.
 -- Assumes nothing.
-use Rattle.std.specs.Prelude.{ℕ, ◌/◌, ◌%◌, ◌≤◌, ◌<◌, ◌≡◌, cond, List, length, eqb}
+use Rattle.std.specs.Prelude.{ℕ, ◌/◌, ◌%◌, ◌<◌, ◌≡◌, cond, List, length, eqb}
 use Rattle.model.specs.Word.{word}
 use Rattle.model.specs.Layout.{record_head}
 use Rattle.ranking.specs.Groups.{pool, full}
@@ -17,13 +17,11 @@ head_by keys lives n s =
 
 -- what that asks: a class fits the head's 4 bits, and a count its 12 bits
 pub record HeadOf (keys lives : List ℕ) (n s : ℕ) : Type 0 where
-  pub few : n ≤ 64
   pub there : s < n
   pub small : word keys s < 16384
   pub fits : word lives s < 4096
 
 pub record HeadsOf (keys lives : List ℕ) (n : ℕ) : Type 0 where
-  pub few : n ≤ 64
   pub small : (s : ℕ) → s < n → word keys s < 16384
   pub fits : (s : ℕ) → s < n → word lives s < 4096
 

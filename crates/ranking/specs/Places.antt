@@ -21,11 +21,6 @@ unfoldable pub place_by : List ℕ → ℕ → ℕ → ℕ
 place_by keys n i =
     place_for i (keys_in keys n (key_of i full 0) (key_of i rest 0)) (keys_in keys n (key_of i full 0) (key_of (i + 1) pool 0))
 
-pub record PlaceOf (n i : ℕ) : Type 0 where
-  pub few : n ≤ 64
-  pub low : 3 ≤ i
-  pub high : i ≤ 12
-
 pub record Places (keys : List ℕ) (n : ℕ) (places : List ℕ) : Type 0 where
   pub long : length places ≡ 10
   pub placed : (c : ℕ) → c < 10 → word places c ≡ place_by keys n (c + 3)

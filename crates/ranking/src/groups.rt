@@ -1,28 +1,32 @@
-// The groups in which segments are ranked anew: those that go to the pool, the full ones, and the rest.
+// The groups in which segments are ranked anew.
 ghost use Rattle.std.specs.Prelude.{◌≡◌, ◌<◌};
-ghost use Rattle.ranking.specs.Groups.{group_of};
+ghost use Rattle.ranking.specs.Groups.{group_of, number};
 
 use words::class::blocks;
 
-pub const POOL: u32 = 0;
+// In the order of their keys: the segments that go to the pool or are there, the full ones, and the rest.
+#[derive(Clone, Copy, Debug, PartialEq, Eq)]
+pub enum Group {
+    Pool,
+    Full,
+    Rest,
+}
 
-pub const FULL: u32 = 1;
-
-pub const REST: u32 = 2;
-
-// The group of a segment of that class with so many marked blocks.
-pub fn group(class: u32, live: u32) -> u32
-    requires { class < 16 }
-    ensures { (result ≡ group_of class live) × (result < 3) }
-{
-    if class == 0 {
-        return POOL;
+impl Group {
+    // The group of a segment of that class with so many marked blocks.
+    pub fn of(class: u32, live: u32) -> Group
+        requires { class < 16 }
+        ensures { number result ≡ group_of class live }
+    {
+        if class == 0 {
+            return Group::Pool;
+        }
+        if live == 0 {
+            return Group::Pool;
+        }
+        if live == blocks(class) {
+            return Group::Full;
+        }
+        Group::Rest
     }
-    if live == 0 {
-        return POOL;
-    }
-    if live == blocks(class) {
-        return FULL;
-    }
-    REST
 }

@@ -2,41 +2,40 @@
 ghost use Rattle.std.specs.Prelude.{◌≡◌, ◌≤◌, ◌<◌};
 ghost use Rattle.ranking.specs.Heads.{rank_by, head_by, HeadOf, HeadsOf, Heads};
 
-use crate::groups::{FULL, POOL};
-use crate::keys::{key, key_class, key_group, keys_in};
+use crate::groups::Group;
+use crate::keys::{Keyed, key, key_class, key_group, keys_in};
 use words::fields::record_head;
-use words::slices::wide;
 
-// "Full ones first, then the rest, each group in its former order."
-fn new_rank(keys: &[u32; 64], n: u32, own: u32) -> u32
-    requires { (n ≤ 64) × (own < 16384) }
-    ensures { (result ≡ rank_by keys.now n own) × (result ≤ 64) }
-{
-    keys_in(keys, n, key(key_class(own), FULL, 0), own)
-}
-
-// The head of a segment's new record; in the pool it is 0.
-fn new_head(keys: &[u32; 64], lives: &[u32; 64], n: u32, s: u32) -> u32
-    requires { HeadOf keys.now lives.now n s }
-    ensures { result ≡ head_by keys.now lives.now n s }
-{
-    let own = keys[wide(s)];
-    if key_group(own) == POOL {
-        return 0;
+impl Keyed {
+    // "Full ones first, then the rest, each group in its former order."
+    fn new_rank(&self, own: u32) -> u32
+        requires { own < 16384 }
+        ensures { (result ≡ rank_by self.now.keys self.now.n own) × (result ≤ 64) }
+    {
+        keys_in(&self.keys, self.n, key(key_class(own), Group::Full, 0), own)
     }
-    record_head(key_class(own), new_rank(keys, n, own), lives[wide(s)])
-}
 
-// The heads of the new records of n segments.
-pub fn new_heads(keys: &[u32; 64], lives: &[u32; 64], n: u32) -> [u32; 64]
-    requires { HeadsOf keys.now lives.now n }
-    ensures { Heads keys.now lives.now n result }
-{
-    let mut heads = [0; 64];
-    let mut s: u32 = 0;
-    while s < n {
-        heads[wide(s)] = new_head(keys, lives, n, s);
-        s += 1;
+    // The head of a segment's new record; in the pool it is 0.
+    fn new_head(&self, lives: &[u32; 64], s: u32) -> u32
+        requires { HeadOf self.now.keys lives.now self.now.n s }
+        ensures { result ≡ head_by self.now.keys lives.now self.now.n s }
+    {
+        let own = self.keys[s as usize];
+        if key_group(own) == Group::Pool as u32 {
+            return 0;
+        }
+        record_head(key_class(own), self.new_rank(own), lives[s as usize])
     }
-    heads
+
+    // The heads of the new records.
+    pub fn new_heads(&self, lives: &[u32; 64]) -> [u32; 64]
+        requires { HeadsOf self.now.keys lives.now self.now.n }
+        ensures { Heads self.now.keys lives.now self.now.n result }
+    {
+        let mut heads = [0; 64];
+        for s in 0..self.n {
+            heads[s as usize] = self.new_head(lives, s);
+        }
+        heads
+    }
 }

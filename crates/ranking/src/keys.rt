@@ -1,24 +1,23 @@
 // The keys by which segments are ranked anew.
 //
 // A key is made of class, group and former rank, most significant first. So the segments of a class that stay
-// have their new order as the order of their keys, and a new rank is the number of such keys before its own.
+// have their new order as the order of their keys, and a new rank is the number of such keys before its own. A key
+// is one number, and no struct of three, since a rank is counted over all keys, several at a time.
 ghost use Rattle.std.specs.Prelude.{◌≡◌, ◌/◌, ◌%◌, ◌<◌, ◌≤◌};
-ghost use Rattle.model.specs.Below.{one_if};
 ghost use Rattle.model.specs.Word.{word};
-ghost use Rattle.model.specs.View.{class, rank};
+ghost use Rattle.model.specs.View.{segments, class, rank};
 ghost use Rattle.arena.specs.Inside.{Segment};
-ghost use Rattle.ranking.specs.Groups.{group_of};
-ghost use Rattle.ranking.specs.Keys.{Whole, key_of, Keys, between, keys_in};
+ghost use Rattle.ranking.specs.Groups.{group_of, number};
+ghost use Rattle.ranking.specs.Keys.{Whole, key_of, Keys, keys_in};
 
-use crate::groups::group;
+use crate::groups::Group;
 use arena::{class, rank, segments};
-use words::slices::wide;
 
-pub fn key(class: u32, group: u32, rank: u32) -> u32
-    requires { (class < 16) × (group < 3) × (rank < 256) }
-    ensures { result ≡ key_of class group rank }
+pub fn key(class: u32, group: Group, rank: u32) -> u32
+    requires { (class < 16) × (rank < 256) }
+    ensures { result ≡ key_of class (number group) rank }
 {
-    class * 1024 + group * 256 + rank
+    class * 1024 + group as u32 * 256 + rank
 }
 
 pub fn key_class(key: u32) -> u32
@@ -39,48 +38,41 @@ fn key_of(arena: &[u32], lives: &[u32; 64], s: u32) -> u32
     ensures { result ≡ key_of (class arena.now s) (group_of (class arena.now s) (word lives.now s)) (rank arena.now s) }
 {
     let i = class(arena, s);
-    let group = group(i, lives[wide(s)]);
+    let group = Group::of(i, lives[s as usize]);
     key(i, group, rank(arena, s))
 }
 
-pub fn keys(arena: &[u32], lives: &[u32; 64]) -> [u32; 64]
-    requires { Whole arena.now }
-    ensures { Keys arena.now lives.now result }
-{
-    let n = segments(arena);
-    let mut keys = [0; 64];
-    let mut s: u32 = 0;
-    while s < n {
-        keys[wide(s)] = key_of(arena, lives, s);
-        s += 1;
-    }
-    keys
+// The keys of the n segments of an arena.
+#[derive(Drop)]
+pub struct Keyed {
+    pub n: u32,
+    pub keys: [u32; 64],
+    ghost few: { n ≤ 64 },
 }
 
-// 1 for a key from `from` on and before `to`, 0 for any other.
-fn between(from: u32, to: u32, key: u32) -> u32
-    ensures { result ≡ one_if (between from to key) }
-{
-    if key < from {
-        return 0;
+impl Keyed {
+    pub fn of(arena: &[u32], lives: &[u32; 64]) -> Keyed
+        requires { Whole arena.now }
+        ensures all { result.n ≡ segments arena.now }
+        ensures keys { Keys arena.now lives.now result.keys }
+    {
+        let n = segments(arena);
+        let mut keys = [0; 64];
+        for s in 0..n {
+            keys[s as usize] = key_of(arena, lives, s);
+        }
+        Keyed { n, keys }
     }
-    if key < to {
-        return 1;
-    }
-    0
 }
 
-// How many of the first n keys lie there.
+// How many of the first n keys lie from `from` on and before `to`: a sum with no branch on what the keys are, which is
+// taken several keys at a time.
 pub fn keys_in(keys: &[u32; 64], n: u32, from: u32, to: u32) -> u32
     requires { n ≤ 64 }
     ensures { (result ≡ keys_in keys.now n from to) × (result ≤ 64) }
 {
-    let end = wide(n);
-    let mut sum: u32 = 0;
-    let mut t = 0;
-    while t < end {
-        sum += between(from, to, keys[t]);
-        t += 1;
-    }
-    sum
+    keys[..n as usize]
+        .iter()
+        .map(|&key| (from <= key && key < to) as u32)
+        .sum()
 }

@@ -13,7 +13,6 @@ ghost use Rattle.ranking.specs.Levels.{with_word, PutWord, OfMarks};
 use bitmap::climb::set_bit;
 use bitmap::fresh::fresh;
 use words::class::blocks;
-use words::slices::wide;
 
 // The record with the same head in which no block's bit is set.
 fn unset(rec: &mut [u32], class: u32)
@@ -46,10 +45,7 @@ pub fn write_levels(rec: &mut [u32], class: u32, marks: &[u32])
     ensures { rec.new ≡ word rec.old 0 ∷ level_rows class (mark_in marks.now) }
 {
     unset(rec, class);
-    let words = (blocks(class) + 31) / 32;
-    let mut j: u32 = 0;
-    while j < words {
-        put_word(rec, class, j, marks[wide(j)]);
-        j += 1;
+    for j in 0..blocks(class).div_ceil(32) {
+        put_word(rec, class, j, marks[j as usize]);
     }
 }

@@ -11,10 +11,9 @@
 
 ghost use Rattle.ranking.specs.Anew.{Reached, Anew};
 
-use crate::heads::new_heads;
-use crate::keys::keys;
+use crate::keys::Keyed;
 use crate::live::count;
-use crate::places::{new_places, write_places};
+use crate::places::write_places;
 use crate::records::write_records;
 use arena::segments;
 
@@ -32,11 +31,10 @@ pub fn rank_anew(arena: &mut [u32], marks: &[u32])
     requires { Reached arena.old marks.now }
     ensures { Anew arena.old marks.now arena.new }
 {
-    let n = segments(arena);
-    let lives = count(marks, n);
-    let keys = keys(arena, &lives);
-    let heads = new_heads(&keys, &lives, n);
-    let places = new_places(&keys, n);
+    let lives = count(marks, segments(arena));
+    let keyed = Keyed::of(arena, &lives);
+    let heads = keyed.new_heads(&lives);
+    let places = keyed.new_places();
     write_records(arena, &heads, marks);
     write_places(arena, &places);
 }

@@ -3,16 +3,14 @@ ghost use Rattle.std.specs.Prelude.{◌≡◌, ◌≤◌};
 ghost use Rattle.ranking.specs.Live.{RowOf, Row, live_in, Live};
 
 use bitmap::count::ones_in;
-use words::slices::wide;
 
 // The marks of a segment are 64 words; behind its blocks none is set.
 fn live_in(marks: &[u32], s: u32) -> u32
     requires { RowOf marks.now s }
     ensures { (result ≡ live_in marks.now s) × (result ≤ 2048) }
 {
-    let from = 1 + 64 * wide(s);
-    let to = from + 64;
-    ones_in(&marks[from..to])
+    let from = 1 + 64 * s as usize;
+    ones_in(&marks[from..from + 64])
 }
 
 // The count of each of n segments.
@@ -21,10 +19,8 @@ pub fn count(marks: &[u32], n: u32) -> [u32; 64]
     ensures { Live marks.now n result }
 {
     let mut lives = [0; 64];
-    let mut s: u32 = 0;
-    while s < n {
-        lives[wide(s)] = live_in(marks, s);
-        s += 1;
+    for s in 0..n {
+        lives[s as usize] = live_in(marks, s);
     }
     lives
 }

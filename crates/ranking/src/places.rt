@@ -1,13 +1,13 @@
 // The new allocation places.
 ghost use Rattle.std.specs.Prelude.{◌≡◌, ◌≤◌};
 ghost use Rattle.model.specs.Word.{put};
-ghost use Rattle.ranking.specs.Places.{PlaceFor, place_for, place_by, PlaceOf, Places, WritePlaces};
+ghost use Rattle.ranking.specs.Places.{PlaceFor, place_for, place_by, Places, WritePlaces};
 
-use crate::groups::{FULL, POOL, REST};
-use crate::keys::{key, keys_in};
+use crate::groups::Group;
+use crate::keys::{Keyed, key, keys_in};
+use std::array;
 use words::class::blocks;
 use words::fields::place;
-use words::slices::wide;
 
 // "The place is (rank of the first segment that isn't full, 0); if all m are full, (m - 1, number of blocks); if m = 0, (0, 0)."
 // The full ones of the class's m segments stand first.
@@ -24,28 +24,23 @@ fn place_for(class: u32, full: u32, m: u32) -> u32
     place(m - 1, blocks(class))
 }
 
-fn new_place(keys: &[u32; 64], n: u32, class: u32) -> u32
-    requires { PlaceOf n class }
-    ensures { result ≡ place_by keys.now n class }
-{
-    let first = key(class, FULL, 0);
-    let full = keys_in(keys, n, first, key(class, REST, 0));
-    let m = keys_in(keys, n, first, key(class + 1, POOL, 0));
-    place_for(class, full, m)
-}
-
-// The places of all classes, for the keys of n segments.
-pub fn new_places(keys: &[u32; 64], n: u32) -> [u32; 10]
-    requires { n ≤ 64 }
-    ensures { Places keys.now n result }
-{
-    let mut places = [0; 10];
-    let mut c: u32 = 0;
-    while c < 10 {
-        places[wide(c)] = new_place(keys, n, c + 3);
-        c += 1;
+impl Keyed {
+    fn new_place(&self, class: u32) -> u32
+        requires { (3 ≤ class) × (class ≤ 12) }
+        ensures { result ≡ place_by self.now.keys self.now.n class }
+    {
+        let first = key(class, Group::Full, 0);
+        let full = keys_in(&self.keys, self.n, first, key(class, Group::Rest, 0));
+        let m = keys_in(&self.keys, self.n, first, key(class + 1, Group::Pool, 0));
+        place_for(class, full, m)
     }
-    places
+
+    // The places of all classes.
+    pub fn new_places(&self) -> [u32; 10]
+        ensures { Places self.now.keys self.now.n result }
+    {
+        array::from_fn(|c| self.new_place(c as u32 + 3))
+    }
 }
 
 // Writes the ten words behind the arena's first.
@@ -53,9 +48,5 @@ pub fn write_places(arena: &mut [u32], places: &[u32; 10])
     requires { WritePlaces arena.old places.now }
     ensures { arena.new ≡ put arena.old 1 places.now }
 {
-    let mut c = 0;
-    while c < 10 {
-        arena[c + 1] = places[c];
-        c += 1;
-    }
+    arena[1..11].copy_from_slice(places);
 }

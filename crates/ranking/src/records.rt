@@ -9,7 +9,6 @@ ghost use Rattle.ranking.specs.Records.{with_records, marked_record, MarkedRecor
 use crate::levels::write_levels;
 use arena::segments;
 use words::fields::record_class;
-use words::slices::{clear, wide};
 
 // "Segments with count 0 go to the pool": their whole record is 0. Any other has its head, and the levels of its marks.
 fn marked_record(rec: &mut [u32], head: u32, marks: &[u32])
@@ -17,7 +16,7 @@ fn marked_record(rec: &mut [u32], head: u32, marks: &[u32])
     ensures { rec.new ≡ marked_record head marks.now }
 {
     if head == 0 {
-        clear(rec);
+        rec.fill(0);
         return;
     }
     rec[0] = head;
@@ -28,21 +27,16 @@ fn write_record(arena: &mut [u32], s: u32, head: u32, marks: &[u32])
     requires { WriteRecord arena.old s head marks.now }
     ensures { arena.new ≡ put arena.old (record_at s) (marked_record head (marks_of marks.now s)) }
 {
-    let at = 11 + 68 * wide(s);
-    let end = at + 68;
-    let from = 1 + 64 * wide(s);
-    let to = from + 64;
-    marked_record(&mut arena[at..end], head, &marks[from..to]);
+    let at = 11 + 68 * s as usize;
+    let from = 1 + 64 * s as usize;
+    marked_record(&mut arena[at..at + 68], head, &marks[from..from + 64]);
 }
 
 pub fn write_records(arena: &mut [u32], heads: &[u32; 64], marks: &[u32])
     requires { WriteRecords arena.old heads.now marks.now }
     ensures { arena.new ≡ with_records arena.old (segments arena.old) (λ s. marked_record (word heads.now s) (marks_of marks.now s)) }
 {
-    let n = segments(arena);
-    let mut s: u32 = 0;
-    while s < n {
-        write_record(arena, s, heads[wide(s)], marks);
-        s += 1;
+    for s in 0..segments(arena) {
+        write_record(arena, s, heads[s as usize], marks);
     }
 }

@@ -12,8 +12,8 @@ use native.Mathlib.Numerals.{add-one}
 use lib.Bits.{bit_and, and_mask}
 use lib.Pow.{pow-add}
 use lib.Dec.{eqb}
-use lib.ListN.{length, get_or, take, drop, set, length-append}
-use lib.Seq.{paste, paste-suc, take-length, length-take-le, take_at, take-set-le, take-suc-set, ext_get_or}
+use lib.ListN.{length, get_or, take, drop, set, length-append, length-drop}
+use lib.Seq.{length-take-le, take_at, take-set-le, take-suc-set, ext_get_or}
 use borrow.Author.Tests.{eqb-false, not-true}
 use Rattle.model.specs.Below.{words_below, lists_below}
 use Rattle.model.specs.Word.{word, part, put}
@@ -23,7 +23,7 @@ use Rattle.model.specs.View.{segments, class, block, block_of, n_in, r_in, refer
 use Rattle.model.specs.Standing.{taken_at, is_taken, none_or_taken}
 use Rattle.model.specs.Sound.{sound}
 use Rattle.laws.proofs.Below.{length_words_below, word_words_below}
-use Rattle.laws.proofs.Splice.{length_part, word_part}
+use Rattle.laws.proofs.Splice.{length_part, word_part, put_mid_is}
 use Rattle.words.proofs.ClassLaws.{class_bounds, class_high, class_room, block_least}
 use Rattle.arena.specs.Inside.{Segment, Block}
 use Rattle.soundness.proofs.Tests.{and_left, and_right}
@@ -32,14 +32,11 @@ use Rattle.trace.specs.Gather.{Masked, Behind, First, references_of, references_
 
 -- ---- a copy
 
--- one word more
-pub paste_more : (d : List ℕ) (at : ℕ) (s : List ℕ) (j : ℕ) → at + j < length d → j < length s
-    → set (paste d at s j) (at + j) (get_or s j 0) ≡ paste d at s (j + 1)
-paste_more d at s j hd hs = rw add-one (paste-suc d at s j 0 hd hs)
-
--- all of them
-pub paste_all : (d : List ℕ) (at : ℕ) (s : List ℕ) → paste d at s (length s) ≡ put d at s
-paste_all d at s = rw (take-length s) (append_assoc (take at d) s (drop (at + length s) d))
+-- a part of a row after as many words have been copied there
+pub part_copied : (row from part : List ℕ) (at to : ℕ) → at ≤ to → to ≤ length row → length part ≡ length (take (to - at) (drop at row)) → part ≡ from →
+    take at row ++ (part ++ drop (to - at) (drop at row)) ≡ put row at from
+part_copied row from part at to l u size e =
+    put_mid_is at (to - at) row part (size ∙ length-take-le (to - at) (drop at row) (rw (length-drop at row) (omega arith))) ∙ ap (put row at) e
 
 -- words in a row, one by one
 pub part_words : (ws : List ℕ) (o n : ℕ) → o + n ≤ length ws → part ws o n ≡ words_below n (λ k. word ws (o + k))

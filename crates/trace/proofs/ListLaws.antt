@@ -2,16 +2,15 @@
 -- Assumes nothing.
 use Prim.Native.Nat.{ℕ, ◌+◌, ◌-◌, ◌*◌, ◌≤◌, ◌<◌}
 use mathlib.Core.Path.{◌≡◌, refl, sym, ap, ◌∙◌, subst}
-use mathlib.Core.Logic.{◌≢◌}
 use mathlib.Core.Bool.{Bool, true, false, not, cond, ◌||◌}
 use mathlib.Core.List.{List, [], ◌∷◌, ◌++◌, append_assoc, append-nil}
 use native.Mathlib.Nat.{add-zero}
 use native.Mathlib.Omega.{arith}
 use native.Mathlib.Numerals.{add-one}
 use lib.Dec.{eqb}
+use mir.Val.{bool_byte}
 use lib.ListN.{length, get_or, take, drop, set, length-set, length-append}
 use lib.Seq.{take-suc-set, take-set-le, drop-set-lt, length-take-le, drop-drop}
-use Rattle.model.specs.Below.{one_if}
 use Rattle.model.specs.Ways.{listed}
 use Rattle.ways.proofs.Put.{put_on, put_all, put_all_next, put_all_length}
 use Rattle.arena.specs.Rows.{row_bit, Marked}
@@ -22,42 +21,29 @@ use Rattle.trace.proofs.MarkLaws.{mark_new, mark_put_on}
 -- ---- one handle
 
 -- what is put on, where `new` tells whether the handle is new
-put_on_new : (L : List ℕ) (h new : ℕ) → new ≡ one_if (not (eqb h 0 || listed L h)) → new ≡ 1 → put_on L h ≡ L ++ (h ∷ [])
+put_on_is : (L : List ℕ) (h : ℕ) (new : Bool) → new ≡ not (eqb h 0 || listed L h) → put_on L h ≡ cond new (L ++ (h ∷ [])) L
 unfolding put_on
-put_on_new L h new e = go (eqb h 0 || listed L h) e
+put_on_is L h new e = rw e (go (eqb h 0 || listed L h))
   where
-    go : (t : Bool) → new ≡ one_if (not t) → new ≡ 1 → cond t L (L ++ (h ∷ [])) ≡ L ++ (h ∷ [])
-    go true z o = absurd (omega arith)
-    go false z o = refl
-
-put_on_old : (L : List ℕ) (h new : ℕ) → new ≡ one_if (not (eqb h 0 || listed L h)) → new ≢ 1 → put_on L h ≡ L
-unfolding put_on
-put_on_old L h new e = go (eqb h 0 || listed L h) e
-  where
-    go : (t : Bool) → new ≡ one_if (not t) → new ≢ 1 → cond t L (L ++ (h ∷ [])) ≡ L
-    go true z o = refl
-    go false z o = absurd (o z)
-
--- what is new is neither 0 nor marked
-pub was_new : (t : Bool) (new : ℕ) → new ≡ one_if (not t) → new ≡ 1 → t ≡ false
-was_new true new z o = absurd (omega arith)
-was_new false new z o = refl
+    go : (t : Bool) → cond t L (L ++ (h ∷ [])) ≡ cond (not t) (L ++ (h ∷ [])) L
+    go true = refl
+    go false = refl
 
 -- a root that is new, and one that is not
-module _ (h : ℕ) (list : List ℕ) (c : ℕ) {marks marks' : List ℕ} {new : ℕ} (k : Mark marks h new marks') (N : ℕ) (l : h ≤ 2048 * N)
+module _ (h : ℕ) (list : List ℕ) (c : ℕ) {marks marks' : List ℕ} {new : Bool} (k : Mark marks h new marks') (N : ℕ) (l : h ≤ 2048 * N)
     (m : Marked N marks (take c list)) where
-  pub root_new : c < length list → new ≡ 1 → On N (put_on (take c list) h) list (c + 1) (set list c h) marks'
+  pub root_new : c < length list → new ≡ true → On N (put_on (take c list) h) list (c + 1) (set list c h) marks'
   root_new u o = record {
     within = rw (length-set list c h) (omega arith);
-    first = rw (add-one, take-suc-set list c h u) (sym (put_on_new (take c list) h new (mark_new m l k) o));
+    first = rw (add-one, take-suc-set list c h u) (sym (put_on_is (take c list) h new (mark_new m l k) ∙ rw o));
     later = drop-set-lt (c + 1) list c h (omega arith);
     marks = mark_put_on m l k;
   }
 
-  pub root_old : c ≤ length list → new ≢ 1 → On N (put_on (take c list) h) list c list marks'
+  pub root_old : c ≤ length list → new ≡ false → On N (put_on (take c list) h) list c list marks'
   root_old u o = record {
     within = u;
-    first = sym (put_on_old (take c list) h new (mark_new m l k) o);
+    first = sym (put_on_is (take c list) h new (mark_new m l k) ∙ rw o);
     later = refl;
     marks = mark_put_on m l k;
   }
@@ -109,7 +95,7 @@ module _ (N : ℕ) (roots list : List ℕ) (c : ℕ) (list' marks' : List ℕ) (
       h = get_or roots p 0
 
       new : put_on L h ≡ L ++ (h ∷ [])
-      new = put_on_new L h 1 (ap (λ (t : Bool). one_if (not t)) (sym (sym (o.marks.at h small) ∙ e))) refl
+      new = put_on_is L h true (ap not (sym e ∙ o.marks.at h small))
 
   -- and it is put on
   pub root_on : {c' : ℕ} {list'' marks'' : List ℕ} → PutRoot (get_or roots p 0) list' c marks' c' list'' marks'' →
@@ -122,24 +108,27 @@ module _ (N : ℕ) (roots list : List ℕ) (c : ℕ) (list' marks' : List ℕ) (
 -- ---- a row
 
 -- one word more, kept if it is new
-kept_on : (L M row : List ℕ) (i h new : ℕ) → i < length row → L ++ take i row ≡ M → new ≡ one_if (not (eqb h 0 || listed M h)) →
-    L ++ take (i + new) (set row i h) ≡ put_on M h
-unfolding put_on
-kept_on L M row i h new l e t = go (eqb h 0 || listed M h) t
+kept_on : (L M row : List ℕ) (i h : ℕ) (new : Bool) → i < length row → L ++ take i row ≡ M → new ≡ not (eqb h 0 || listed M h) →
+    L ++ take (i + bool_byte new) (set row i h) ≡ put_on M h
+kept_on L M row i h new l e t = go new ∙ sym (put_on_is M h new t)
   where
-    go : (t : Bool) → new ≡ one_if (not t) → L ++ take (i + new) (set row i h) ≡ cond t M (M ++ (h ∷ []))
-    go true z = rw (z, add-zero, take-set-le i row i h (omega arith)) e
-    go false z = rw (z, add-one, take-suc-set row i h l, ← append_assoc) (ap (λ (P : List ℕ). P ++ (h ∷ [])) e)
+    go : (new : Bool) → L ++ take (i + bool_byte new) (set row i h) ≡ cond new (M ++ (h ∷ [])) M
+    go false = rw (add-zero, take-set-le i row i h (omega arith)) e
+    go true = rw (add-one, take-suc-set row i h l, ← append_assoc) (ap (λ (P : List ℕ). P ++ (h ∷ [])) e)
 
 pub kept_none : (row marks : List ℕ) → Kept row 0 marks 0 row marks
 unfolding put_all
 kept_none row marks = record { within = omega arith; words = λ N L p m. append-nil L; marked = λ N L p m. m }
 
-pub kept_more : (row : List ℕ) (k : ℕ) (marks : List ℕ) (kept : ℕ) (row' marks' : List ℕ) (h new : ℕ) (marks'' : List ℕ) →
+one_most : (t : Bool) → bool_byte t ≤ 1
+one_most true = omega arith
+one_most false = omega arith
+
+pub kept_more : (row : List ℕ) (k : ℕ) (marks : List ℕ) (kept : ℕ) (row' marks' : List ℕ) (h : ℕ) (new : Bool) (marks'' : List ℕ) →
     Kept row k marks kept row' marks' → k < length row → kept < length row' → h ≡ get_or row k 0 → Mark marks' h new marks'' →
-    Kept row (k + 1) marks (kept + new) (set row' kept h) marks''
+    Kept row (k + 1) marks (kept + bool_byte new) (set row' kept h) marks''
 kept_more row k marks kept row' marks' h new marks'' so_far l u is_h mark = record {
-  within = omega (arith, so_far.within, mark.most);
+  within = omega (arith, so_far.within, one_most new);
   words = λ N L p m.
       next L (kept_on L (put_all L (take k row)) row' kept h new u (so_far.words N L (low N p) m)
       (mark_new (so_far.marked N L (low N p) m) (small N p) mark));

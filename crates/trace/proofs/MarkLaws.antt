@@ -1,8 +1,8 @@
 -- Marks: what one store does to the row, and to the list whose handles are marked.
 -- Assumes nothing.
-use Prim.Native.Nat.{ℕ, ◌+◌, ◌-◌, ◌*◌, ◌/◌, ◌%◌, ◌^◌, ◌≤◌, ◌<◌}
+use Prim.Native.Nat.{ℕ, ◌+◌, ◌*◌, ◌/◌, ◌%◌, ◌≤◌, ◌<◌}
 use mathlib.Core.Path.{◌≡◌, refl, sym, ap, ◌∙◌}
-use mathlib.Core.Logic.{◌⊎◌, inl, inr, ◌≢◌}
+use mathlib.Core.Logic.{◌≢◌}
 use mathlib.Core.Bool.{Bool, true, false, not, ◌||◌, cond, or-false, or_assoc}
 use mathlib.Core.List.{List, [], ◌∷◌, ◌++◌}
 use native.Mathlib.Omega.{arith}
@@ -10,24 +10,13 @@ use lib.Dec.{eqb}
 use lib.ListN.{length, set, replicate, length-replicate, length-append, get_or-replicate, get_or-append}
 use lib.Seq.{get_or-set_same, get_or-set_other}
 use borrow.Author.Tests.{eqb-true, eqb-false, eq-eqb, ne_eqb}
-use Rattle.model.specs.Below.{one_if}
 use Rattle.model.specs.Word.{word, bit, word_of_bits}
-use Rattle.laws.proofs.Bits.{digit, bit_zero, bit_word_of_bits}
+use Rattle.laws.proofs.Bits.{bit_zero, bit_word_of_bits}
 use Rattle.model.specs.Ways.{listed}
 use Rattle.arena.specs.Rows.{row_bit, Marked}
 use Rattle.soundness.proofs.Tests.{same_test}
 use Rattle.ways.proofs.Put.{put_on}
 use Rattle.trace.specs.Marks.{Mark}
-
--- ---- without a branch
-
--- `1 - (w >> b) % 2`
-not_set : (w b : ℕ) → 1 - w / 2 ^ b % 2 ≡ one_if (not (bit w b))
-not_set w b = go (digit (w / 2 ^ b))
-  where
-    go : (w / 2 ^ b % 2 ≡ 0) ⊎ (w / 2 ^ b % 2 ≡ 1) → 1 - w / 2 ^ b % 2 ≡ one_if (not (bit w b))
-    go (inl e) = rw e
-    go (inr e) = rw e
 
 -- ---- one store in the row
 
@@ -42,7 +31,7 @@ or_swap false true = refl
 or_swap false false = refl
 
 -- the word of handle h with its bit set: its mark is set, and the others are as before
-mark_row : (marks : List ℕ) (h : ℕ) → (h + 31) / 32 < length marks → (g : ℕ) →
+pub mark_row : (marks : List ℕ) (h : ℕ) → (h + 31) / 32 < length marks → (g : ℕ) →
     row_bit (set marks ((h + 31) / 32) (word_of_bits (λ j. eqb j ((h + 31) % 32) || bit (word marks ((h + 31) / 32)) j))) g ≡ (row_bit marks g || eqb g h)
 mark_row marks h inside g = go (eqb ((g + 31) / 32) at) refl
   where
@@ -62,18 +51,6 @@ mark_row marks h inside g = go (eqb ((g + 31) / 32) at) refl
     go false q =
         let n : (g + 31) / 32 ≢ at = eqb-false ((g + 31) / 32) at q in
         rw (get_or-set_other marks at ((g + 31) / 32) (word_of_bits f) 0 n, ne_eqb g h (λ q. n (ap (λ (z : ℕ). (z + 31) / 32) q)), or-false)
-
--- `mark`, with its names for the place of the bit
-pub mark_stored : (marks : List ℕ) (h x v : ℕ) → x ≡ h → (x + 31) / 32 < length marks →
-    v ≡ word_of_bits (λ j. eqb j ((x + 31) % 32) || bit (word marks ((x + 31) / 32)) j) →
-    Mark marks h (1 - word marks ((x + 31) / 32) / 2 ^ ((x + 31) % 32) % 2) (set marks ((x + 31) / 32) v)
-mark_stored marks h x v e inside stored =
-    let w : ℕ = word marks ((h + 31) / 32) in
-    rw (stored, e) (record {
-      tells = not_set w ((h + 31) % 32);
-      most = omega arith;
-      bits = mark_row marks h (omega arith);
-    })
 
 -- ---- the marks of a list
 
@@ -96,10 +73,10 @@ known_put_on L h g = go (eqb h 0 || listed L h) refl
     go true e = the_same (eqb g h) refl e
     go false e = rw (listed_last L h g) (sym (or_assoc (eqb g 0) (listed L g) (eqb g h)))
 
-module _ {N : ℕ} {marks L : List ℕ} (m : Marked N marks L) {h new : ℕ} {marks' : List ℕ} (l : h ≤ 2048 * N) (k : Mark marks h new marks') where
+module _ {N : ℕ} {marks L : List ℕ} (m : Marked N marks L) {h : ℕ} {new : Bool} {marks' : List ℕ} (l : h ≤ 2048 * N) (k : Mark marks h new marks') where
   -- what `mark` tells is whether the handle is new to the list
-  pub mark_new : new ≡ one_if (not (eqb h 0 || listed L h))
-  mark_new = k.tells ∙ ap (λ (t : Bool). one_if (not t)) (m.at h l)
+  pub mark_new : new ≡ not (eqb h 0 || listed L h)
+  mark_new = k.tells ∙ ap not (m.at h l)
 
   -- and the marks are then those of the list with the handle put on
   pub mark_put_on : Marked N marks' (put_on L h)

@@ -1,6 +1,5 @@
 // Gathering: the references of a run of blocks, end to end in a row.
 ghost use Rattle.std.specs.Prelude.{◌≡◌, ◌+◌, ◌<◌, ◌≤◌, length};
-ghost use Rattle.model.specs.Word.{put};
 ghost use Rattle.model.specs.Below.{words_below};
 ghost use Rattle.model.specs.View.{r_in, reference_in};
 ghost use Rattle.trace.specs.Gather.{references_of, Masked, Taken, Room, Behind, First, Queued, Gathered};
@@ -9,19 +8,6 @@ use arena::{block_of, class};
 use model::Handle;
 use words::fields::header_r;
 use words::handles::{index, segment};
-use words::slices::wide;
-
-// Copies words into a row, from place `at` on.
-pub fn copy(from: &[u32], row: &mut [u32], at: usize)
-    requires { at + length from.now ≤ length row.old }
-    ensures { row.new ≡ put row.old at from.now }
-{
-    let mut j = 0;
-    while j < from.len() {
-        row[at + j] = from[j];
-        j += 1;
-    }
-}
 
 // The reference in a field, and some word of the block where it has no such field: a block's words are a
 // power of two, so that their mask leads back into the block, with no branch.
@@ -39,10 +25,8 @@ fn first(block: &[u32], row: &mut [u32], end: usize, n: usize)
     requires { Masked block.now × (n ≤ 8) × (end + n ≤ length row.old) }
     ensures { First block.now row.old end n row.new }
 {
-    let mut f: usize = 0;
-    while f < n {
+    for f in 0..n {
         row[end + f] = reference(block, f);
-        f += 1;
     }
 }
 
@@ -52,17 +36,14 @@ fn references(block: &[u32], row: &mut [u32], end: usize) -> usize
     requires { Room block.now row.old end }
     ensures { Behind (words_below (r_in block.now) (reference_in block.now)) row.old end result row.new }
 {
-    let r = wide(header_r(block[0]));
+    let r = header_r(block[0]) as usize;
     if r <= 4 {
         first(block, row, end, 4);
-        return end + r;
-    }
-    if r <= 8 {
+    } else if r <= 8 {
         first(block, row, end, 8);
-        return end + r;
+    } else {
+        row[end..end + r].copy_from_slice(&block[1..1 + r]);
     }
-    let last = 1 + r;
-    copy(&block[1..last], row, end);
     end + r
 }
 
@@ -90,20 +71,15 @@ pub fn gather(arena: &[u32], n: u32, queue: &[u32], row: &mut [u32]) -> Run
     requires { Queued arena.now n queue.now × (1023 ≤ length row.old) }
     ensures { Gathered arena.now queue.now result.blocks result.end row.new }
 {
-    let mut blocks = 0;
     let mut end = 0;
-    while blocks < queue.len() {
+    for (blocks, &h) in queue.iter().enumerate() {
         if row.len() < end + 1023 {
-            return Run {
-                blocks: blocks,
-                end: end,
-            };
+            return Run { blocks, end };
         }
-        end = gather_block(arena, n, queue[blocks], row, end);
-        blocks += 1;
+        end = gather_block(arena, n, h, row, end);
     }
     Run {
-        blocks: blocks,
-        end: end,
+        blocks: queue.len(),
+        end,
     }
 }

@@ -11,10 +11,10 @@
 // the invariant of the order (crate ways, Trace).
 #![tactic(auto)]
 
-ghost use Rattle.std.specs.Prelude.{◌≡◌, ◌&&◌, ◌≤◌, ltb};
+ghost use Rattle.std.specs.Prelude.{◌≡◌, ◌&&◌, ltb};
 ghost use Rattle.trace.specs.Trace.{Traceable, Traced, Turn, Turned};
 
-use crate::gather::{copy, gather};
+use crate::gather::gather;
 use crate::list::{keep_new, put_roots};
 use arena::segments;
 
@@ -29,37 +29,36 @@ pub struct Queue {
     pub tail: usize,
 }
 
+impl Queue {
+    // Whether the trace goes on: there are blocks in the queue, and of the taken blocks, `most` in all, some are not
+    // listed yet. Once all are listed nothing can be put on, and the rest of the queue need not be read.
+    fn goes_on(self, most: usize) -> bool
+        ensures { result ≡ (ltb self.head self.tail && ltb self.tail most) }
+    {
+        self.head < self.tail && self.tail < most
+    }
+}
+
 // One turn: takes blocks off the queue, at least one, and puts on what they refer to.
 fn turn(
     arena: &[u32],
     n: u32,
+    queue: Queue,
     list: &mut [u32],
-    head: usize,
-    tail: usize,
     marks: &mut [u32],
     row: &mut [u32],
 ) -> Queue
-    requires { Turn arena.now n list.old head tail marks.old row.old }
-    ensures { Turned arena.now n list.old head tail result.head result.tail list.new marks.new }
+    requires { Turn arena.now n list.old queue.head queue.tail marks.old row.old }
+    ensures { Turned arena.now n list.old queue.head queue.tail result.head result.tail list.new marks.new }
 {
+    let Queue { head, tail } = queue;
     let run = gather(arena, n, &list[head..tail], row);
-    let end = run.end;
-    let kept = keep_new(row, end, marks);
-    copy(&row[0..kept], list, tail);
+    let kept = keep_new(row, run.end, marks);
+    list[tail..tail + kept].copy_from_slice(&row[..kept]);
     Queue {
         head: head + run.blocks,
         tail: tail + kept,
     }
-}
-
-// Whether the trace goes on: there are blocks in the queue, and of the taken blocks, `most` in all, some are not
-// listed yet. Once all are listed nothing can be put on, and the rest of the queue need not be read.
-fn goes_on(head: usize, tail: usize, most: usize) -> bool
-    requires { tail ≤ most }
-    ensures { result ≡ (ltb head tail && ltb tail most) }
-{
-    let left = most - tail;
-    head < tail && left > 0
 }
 
 // Lists the reachable blocks in the first words of the list, and says how many there are. The marks may
@@ -69,13 +68,11 @@ pub fn trace(arena: &[u32], roots: &[u32], list: &mut [u32], marks: &mut [u32], 
     ensures { Traced arena.now roots.now list.old result list.new marks.new }
 {
     let n = segments(arena);
-    let mut row: [u32; 4096] = [0; 4096];
-    let mut head = 0;
-    let mut tail = put_roots(n, roots, list, marks);
-    while goes_on(head, tail, most) {
-        let queue = turn(arena, n, list, head, tail, marks, &mut row);
-        head = queue.head;
-        tail = queue.tail;
+    let mut row = [0; 4096];
+    let tail = put_roots(n, roots, list, marks);
+    let mut queue = Queue { head: 0, tail };
+    while queue.goes_on(most) {
+        queue = turn(arena, n, queue, list, marks, &mut row);
     }
-    tail as u32
+    queue.tail as u32
 }

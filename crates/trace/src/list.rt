@@ -4,15 +4,6 @@ ghost use Rattle.ways.proofs.Put.{put_all};
 ghost use Rattle.trace.specs.List.{On, Root, PutRoot, Roots, Handles, Kept};
 
 use crate::marks::{clear, mark};
-use words::slices::wide;
-
-// The root at a position.
-fn root_at(roots: &[u32], p: usize) -> u32
-    requires { p < length roots.now }
-    ensures { result ≡ get_or roots.now p 0 }
-{
-    roots[p]
-}
 
 // Puts a root on the list, of which the first c words are in use, unless it is 0 or there already. Gives the
 // new c.
@@ -20,7 +11,7 @@ fn put_root(h: u32, list: &mut [u32], c: usize, marks: &mut [u32]) -> usize
     requires { Root h list.old c marks.old }
     ensures { PutRoot h list.old c marks.old result list.new marks.new }
 {
-    if mark(marks, h) == 1 {
+    if mark(marks, h) {
         list[c] = h;
         return c + 1;
     }
@@ -34,10 +25,8 @@ pub fn put_roots(n: u32, roots: &[u32], list: &mut [u32], marks: &mut [u32]) -> 
 {
     clear(marks, n);
     let mut c = 0;
-    let mut p = 0;
-    while p < roots.len() {
-        c = put_root(root_at(roots, p), list, c, marks);
-        p += 1;
+    for &h in roots {
+        c = put_root(h, list, c, marks);
     }
     c
 }
@@ -49,12 +38,10 @@ pub fn keep_new(row: &mut [u32], end: usize, marks: &mut [u32]) -> usize
     ensures { Kept row.old end marks.old result row.new marks.new }
 {
     let mut kept = 0;
-    let mut k = 0;
-    while k < end {
+    for k in 0..end {
         let h = row[k];
         row[kept] = h;
-        kept += wide(mark(marks, h));
-        k += 1;
+        kept += mark(marks, h) as usize;
     }
     kept
 }

@@ -1,9 +1,9 @@
 -- `trace::turn` meets its contract: what the queue's blocks refer to has its place in the marks, what is new of it fits the list, and it is put on.
 -- Assumes nothing.
-use Prim.Native.Nat.{◌-◌}
-use native.Mathlib.Nat.{sub-zero}
+use Prim.Native.Nat.{◌+◌}
 use native.Mathlib.Omega.{arith}
-use lib.ListN.{length-take}
+use lib.ListN.{take}
+use Rattle.trace.proofs.GatherLaws.{part_copied}
 use Rattle.trace.proofs.TraceLaws.{turn_queue, turn_handles, turn_room, turn_done}
 use Rattle.trace.proofs.turn.Goals as goal
 
@@ -13,13 +13,15 @@ gather-run-requires c = let t = c.requires in (turn_queue t, t.wide)
 pub keep_new-kept-requires : goal.keep_new-kept-requires
 keep_new-kept-requires c = turn_handles c.requires c.gather-run.ensures
 
-pub copy-requires : goal.copy-requires
-copy-requires c =
-    let k = c.keep_new-kept in
-    let room = turn_room c.requires c.gather-run.ensures k.auto.row k.ensures in
-    omega (arith, room, length-take (k.result - 0) k.new.row)
+pub slice_bounds-copy_from_slice-end : goal.slice_bounds-copy_from_slice-end
+slice_bounds-copy_from_slice-end c = let k = c.keep_new-kept in
+    omega (arith, turn_room c.requires c.gather-run.ensures k.auto.row k.ensures, c.requires.some)
 
 pub returns : goal.returns
 returns c =
     let k = c.keep_new-kept in
-    turn_done c.requires c.gather-run.ensures k.auto.row k.ensures (rw sub-zero at c.copy.ensures)
+    let copy = c.copy_from_slice in
+    let room = turn_room c.requires c.gather-run.ensures k.auto.row k.ensures in
+    let tail = c.args.queue.tail in
+    turn_done c.requires c.gather-run.ensures k.auto.row k.ensures
+    (part_copied c.args.list.now (take k.result k.new.row) copy.new.self tail (tail + k.result) (omega arith) room copy.ensures.len copy.ensures.after)

@@ -1,5 +1,5 @@
--- `ranking::live::count` meets its contract. The loop's invariant: the counts of the segments passed stand in the row. Assumes nothing.
-use Prim.Native.Nat.{ℕ, ◌-◌, ◌≤◌, ◌<◌}
+-- The invariant of `ranking::live::count`'s loop: the counts of the segments passed stand in the row. Assumes nothing.
+use Prim.Native.Nat.{ℕ, ◌<◌}
 use mathlib.Core.Path.{◌≡◌}
 use lib.ListN.{length}
 use Rattle.model.specs.Word.{word}
@@ -7,7 +7,4 @@ use Rattle.ranking.specs.Live.{live_in}
 use Rattle.ranking.proofs.live.count.Given as goal
 
 abbrev pub invariant-loop-s : goal.invariant-loop-s
-invariant-loop-s l = (l.s ≤ l.n) × (length l.lives ≡ 64) × ((t : ℕ) → t < l.s → word l.lives t ≡ live_in l.marks t)
-
-abbrev pub decreases-loop-s : goal.decreases-loop-s
-decreases-loop-s l = l.n - l.s
+invariant-loop-s l = (length l.lives ≡ 64) × ((t : ℕ) → t < l.s → word l.lives t ≡ live_in l.marks t)

@@ -18,7 +18,7 @@ use Rattle.ranking.proofs.records.marked_record.Goals as goal
 pub returns-then-head-eq0 : goal.returns-then-head-eq0
 unfolding marked_record
 returns-then-head-eq0 c =
-    c.clear.ensures ∙ ap (λ (n : ℕ). replicate n 0) c.requires.long ∙ simp (eq-eqb _ _ c.if-head-eq0.true)
+    c.fill.ensures.after (λ y e. e) ∙ ap (λ (n : ℕ). replicate n 0) c.requires.long ∙ simp (eq-eqb _ _ c.if-head-eq0.true)
 
 pub write_levels-requires : goal.write_levels-requires
 write_levels-requires c =

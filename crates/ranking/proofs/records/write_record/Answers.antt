@@ -1,6 +1,7 @@
 -- `ranking::records::write_record` meets its contract. Assumes nothing.
 use Prim.Native.Nat.{ℕ, ◌+◌, ◌*◌, ◌-◌}
 use mathlib.Core.Path.{◌≡◌, ap, ap₂, ◌∙◌}
+use mathlib.Core.List.{List}
 use native.Mathlib.Omega.{arith}
 use borrow.Rule.Slice.PartMut.{put_mid}
 use Rattle.model.specs.Word.{part}
@@ -14,13 +15,9 @@ use Rattle.ranking.proofs.records.write_record.Goals as goal
 pub returns : goal.returns
 returns c =
     let a = c.args in
-    let o = 11 + 68 * c.wide.result in
-    let m = 1 + 64 * c.wide-2.result in
-    let at : 11 + 68 * c.wide.result ≡ record_at a.s = omega (arith, c.wide.ensures) in
-    let size : 11 + 68 * c.wide.result + 68 - (11 + 68 * c.wide.result) ≡ 68 = omega arith in
-    let from : 1 + 64 * c.wide-2.result ≡ 1 + 64 * a.s = omega (arith, c.wide-2.ensures) in
-    let words : 1 + 64 * c.wide-2.result + 64 - (1 + 64 * c.wide-2.result) ≡ 64 = omega arith in
-    ap (put_mid o (o + 68 - o) a.arena.now)
-    (c.marked_record.ensures ∙ ap₂ (λ (o n : ℕ). marked_record a.head (part a.marks.now o n)) from words)
-    ∙ ap₂ (λ (o n : ℕ). put_mid o n a.arena.now (marked_record a.head (marks_of a.marks.now a.s))) at size
+    let size : record_at a.s + 68 - record_at a.s ≡ 68 = omega arith in
+    let words : 1 + 64 * a.s + 64 - (1 + 64 * a.s) ≡ 64 = omega arith in
+    let made : c.marked_record.new.rec ≡ marked_record a.head (marks_of a.marks.now a.s) =
+    c.marked_record.ensures ∙ ap (λ (n : ℕ). marked_record a.head (part a.marks.now (1 + 64 * a.s) n)) words in
+    ap₂ (λ (n : ℕ) (rec : List ℕ). put_mid (record_at a.s) n a.arena.now rec) size made
     ∙ put_mid_is (record_at a.s) 68 a.arena.now (marked_record a.head (marks_of a.marks.now a.s)) (marked_length a.head (marks_of a.marks.now a.s))

@@ -1,7 +1,6 @@
--- `ranking::records::write_records` meets its contract. The loop's invariant: the records passed are the new ones. Assumes nothing.
-use borrow.Author.Rules.{rules}
-use Prim.Native.Nat.{ℕ, ◌+◌, ◌≤◌, ◌<◌}
-use mathlib.Core.Path.{◌≡◌, refl, sym, ap, ap₂, subst, ◌∙◌}
+-- `ranking::records::write_records` meets its contract. Assumes nothing.
+use Prim.Native.Nat.{ℕ, ◌≤◌, ◌<◌}
+use mathlib.Core.Path.{◌≡◌, sym, ap, ◌∙◌}
 use mathlib.Core.List.{List}
 use native.Mathlib.Omega.{arith}
 use lib.ListN.{length}
@@ -9,7 +8,7 @@ use Rattle.model.specs.Word.{word, put}
 use Rattle.model.specs.Layout.{record_at}
 use Rattle.model.specs.View.{segments}
 use Rattle.ranking.specs.Live.{marks_of}
-use Rattle.ranking.specs.Records.{with_records, marked_record, Head}
+use Rattle.ranking.specs.Records.{with_records, marked_record}
 use Rattle.ranking.proofs.RecordLaws.{marked_length, with_none, with_next, with_segments}
 use Rattle.ranking.proofs.records.write_records.Goals as goal
 use Rattle.ranking.proofs.records.write_records.Goals.{In-loop-s}
@@ -26,27 +25,24 @@ kept : (d : In-loop-s) → segments d.loop-s.arena ≡ segments d.args.arena.now
 kept d =
     let a = d.args in
     let x = d.loop-s in
-    ap (λ (ws : List ℕ). segments ws) x.invariant.2
+    ap (λ (ws : List ℕ). segments ws) x.invariant
     ∙ with_segments a.arena.now x.s (new a.heads.now a.marks.now) (λ k _. new-length a.heads.now a.marks.now k)
-    (omega (arith, d.segments-n.ensures, d.requires.long))
+    (omega (arith, d.segments-s-end.ensures, d.requires.long))
 
 pub loop-s-init : goal.loop-s-init
-loop-s-init c =
-    let a = c.args in
-    (search rules, refl, sym (with_none a.arena.now (new a.heads.now a.marks.now)))
+loop-s-init c = sym (with_none c.args.arena.now (new c.args.heads.now c.args.marks.now))
 
 pub write_record-requires : goal.write_record-requires
 write_record-requires c =
-    let a = c.args in
     let p = c.requires in
-    let x = c.loop-s in
-    let there : x.s < segments a.arena.now = omega (arith, c.segments-n.ensures) in
+    let same = kept (goal.at.write_record-requires c).In-loop-s in
+    let there : c.loop-s.s < segments c.args.arena.now = omega (arith, c.segments-s-end.ensures) in
     record {
-      few = omega (arith, kept (goal.at.write_record-requires c).In-loop-s, p.few);
-      long = omega (arith, kept (goal.at.write_record-requires c).In-loop-s, p.long);
-      there = omega (arith, kept (goal.at.write_record-requires c).In-loop-s);
-      right = subst Head (ap (word a.heads.now) (sym c.wide.ensures)) (p.right x.s there);
-      row = omega (arith, kept (goal.at.write_record-requires c).In-loop-s, p.row);
+      few = omega (arith, same, p.few);
+      long = omega (arith, same, p.long);
+      there = omega (arith, same);
+      right = p.right c.loop-s.s there;
+      row = omega (arith, same, p.row);
     }
 
 pub loop-s-preserved : goal.loop-s-preserved
@@ -54,16 +50,13 @@ loop-s-preserved c =
     let a = c.args in
     let x = c.loop-s in
     let made : ℕ → List ℕ = new a.heads.now a.marks.now in
-    let inside : record_at x.s ≤ length a.arena.now = omega (arith, c.segments-n.ensures, c.requires.long) in
-    let next : c.write_record.new.arena ≡ with_records a.arena.now (x.s + 1) made =
-    c.write_record.ensures
-    ∙ ap₂ (λ (ws : List ℕ) (o : ℕ). put ws (record_at x.s) (marked_record (word a.heads.now o) (marks_of a.marks.now x.s))) x.invariant.2 c.wide.ensures
-    ∙ with_next a.arena.now x.s made (λ k _. new-length a.heads.now a.marks.now k) inside (new-length a.heads.now a.marks.now x.s) in
-    (omega arith, c.write_record.auto.arena ∙ x.invariant.1, next)
+    let inside : record_at x.s ≤ length a.arena.now = omega (arith, c.segments-s-end.ensures, c.requires.long) in
+    c.write_record.ensures ∙ ap (λ (ws : List ℕ). put ws (record_at x.s) (made x.s)) x.invariant
+    ∙ with_next a.arena.now x.s made (λ k _. new-length a.heads.now a.marks.now k) inside (new-length a.heads.now a.marks.now x.s)
 
 pub returns : goal.returns
 returns c =
     let a = c.args in
     let x = c.loop-s in
-    let all : x.s ≡ c.segments-n.result = omega arith in
-    x.invariant.2 ∙ ap (λ (n : ℕ). with_records a.arena.now n (new a.heads.now a.marks.now)) (all ∙ c.segments-n.ensures)
+    let all : x.s ≡ c.segments-s-end.result = omega arith in
+    x.invariant ∙ ap (λ (n : ℕ). with_records a.arena.now n (new a.heads.now a.marks.now)) (all ∙ c.segments-s-end.ensures)

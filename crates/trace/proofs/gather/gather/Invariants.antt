@@ -1,6 +1,6 @@
 -- The invariant of `trace::gather::gather`'s loop: the row begins with the references of the blocks taken off, at most 1,023 of each.
 -- Assumes nothing.
-use Prim.Native.Nat.{◌-◌, ◌*◌, ◌≤◌}
+use Prim.Native.Nat.{◌*◌, ◌≤◌}
 use mathlib.Core.Path.{◌≡◌}
 use lib.ListN.{length, take}
 use Rattle.trace.specs.Gather.{references_of_all}
@@ -8,7 +8,4 @@ use Rattle.trace.proofs.gather.gather.Given as goal
 
 abbrev pub invariant-loop-blocks : goal.invariant-loop-blocks
 invariant-loop-blocks l =
-    (l.blocks ≤ length l.queue) × (length l.row ≡ length l.initial.row) × (l.end ≤ length l.row) × (l.end ≤ 1023 * l.blocks) × (take l.end l.row ≡ references_of_all l.arena l.queue l.blocks)
-
-abbrev pub decreases-loop-blocks : goal.decreases-loop-blocks
-decreases-loop-blocks l = length l.queue - l.blocks
+    (l.end ≤ length l.row) × (l.end ≤ 1023 * l.blocks) × (take l.end l.row ≡ references_of_all l.arena l.queue l.blocks)

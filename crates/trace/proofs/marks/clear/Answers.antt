@@ -1,22 +1,14 @@
 -- `trace::marks::clear` meets its contract. Assumes nothing.
 use Prim.Native.Nat.{◌+◌, ◌*◌}
-use mathlib.Core.Path.{◌≡◌}
-use native.Mathlib.Omega.{arith}
-use lib.ListN.{drop, length-set}
-use borrow.Author.Fill.{fill_more}
-use borrow.Author.Rules.{rules}
+use mathlib.Core.Path.{◌≡◌, ap, ◌∙◌}
+use lib.ListN.{drop, replicate}
+use lib.Seq.{length-take-le}
 use Rattle.trace.proofs.MarkLaws.{cleared}
 use Rattle.trace.proofs.marks.clear.Goals as goal
-
-pub loop-j-preserved : goal.loop-j-preserved
-loop-j-preserved c = (search rules, simp length-set c.loop-j.invariant.1, rw c.loop-j.invariant.2 (fill_more c.loop-j.j 0 c.args.marks.now (omega arith)))
-
-pub shape_of-marks : goal.shape_of-marks
-shape_of-marks c = simp length-set c.loop-j.invariant.1
 
 pub returns : goal.returns
 returns c =
     let n = c.args.n in
-    let marks₀ = c.args.marks.now in
-    let all : c.loop-j.j ≡ 1 + 64 * n = omega arith in
-    rw (c.loop-j.invariant.2, all) (cleared n (drop (1 + 64 * n) marks₀))
+    let zeros : c.fill.new.self ≡ replicate (1 + 64 * n) 0 =
+    c.fill.ensures.after (λ y e. e) ∙ ap (λ k. replicate k 0) (length-take-le (1 + 64 * n) c.args.marks.now c.requires) in
+    rw zeros (cleared n (drop (1 + 64 * n) c.args.marks.now))

@@ -1,0 +1,8 @@
+-- `ranking::keys::Keyed::new_rank` meets its contract. Assumes nothing.
+use native.Mathlib.Omega.{arith}
+use Rattle.ranking.specs.Heads.{rank_by}
+use Rattle.ranking.proofs.keys.Keyed.new_rank.Goals as goal
+
+pub returns : goal.returns
+unfolding rank_by
+returns c = ((cc), omega arith)
