@@ -1,3 +1,4 @@
+pub mod ChainLaws
 pub mod LoopLaws
 pub mod OwnLaws
 pub mod RecordsLaws
