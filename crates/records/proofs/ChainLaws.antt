@@ -1,11 +1,14 @@
 -- A chain that asks a test of the numbers of a range in turn: whether all of them pass, and how many do.
 -- Assumes nothing.
-use Prim.Native.Nat.{ℕ, zero, suc, ◌+◌, ◌-◌, ◌≤◌, ◌<◌}
+use Prim.Native.Nat.{ℕ, zero, suc, ◌+◌, ◌-◌}
 use mathlib.Core.Path.{◌≡◌, refl, sym, ap, ap₂, subst, ◌∙◌}
-use mathlib.Core.List.{List, ◌∷◌}
+use mathlib.Core.List.{List, [], ◌∷◌}
+use lib.Bits.{bit_or, or_add_and, and_le_l, and_le_r}
+use lib.Dec.{eqb}
 use lib.ListN.{length}
+use borrow.Author.Tests.{eqb-true, eqb-false, eq-eqb, ne_eqb}
 use denote.Ref.{Bor}
-use mathlib.Core.Bool.{Bool, true, false}
+use mathlib.Core.Bool.{Bool, true, false, ◌&&◌, and-true, and_assoc}
 use native.Mathlib.Omega.{arith}
 use denote.Param.Members.{Mut, Called}
 use Rattle.std.proofs.Common.{Option, Some, None, IfSome, IsSomeAnd}
@@ -22,11 +25,12 @@ use Rattle.std.proofs.lemmas.Iterator.Consumers.{YieldsList-from_filter, count_f
 use Rattle.std.specs.Fn.{CalledAt}
 use Rattle.std.specs.Iterator.{Drains}
 use Rattle.std.specs.Iterator.Adapters.{filter_source, filter_callee, filter_steps}
-use Rattle.std.specs.List.{filter, range_with_len}
+use Rattle.std.specs.List.{filter, fold, range_with_len}
 use Rattle.std.specs.Option.{option_map}
 use Rattle.std.specs.Range.{range_inclusive_start, range_inclusive_end, range_inclusive_exhausted}
 use Rattle.model.specs.Below.{all_below, count_below, one_if}
-use Rattle.laws.proofs.Below.{all_below_intro, all_below_ext, all_below_fails, count_below_step, count_below_add, count_below_ext}
+use Rattle.model.specs.Word.{word}
+use Rattle.laws.proofs.Below.{all_below_intro, all_below_step, all_below_add, all_below_ext, all_below_fails, count_below_step, count_below_add, count_below_ext}
 
 -- what holds of an item holds of the number that it is
 at_if : (o : Option ℕ) (P : ℕ → Type 0) (m : ℕ) → option_map (λ y. y) o ≡ Some m → IfSome o P → P m
@@ -110,3 +114,33 @@ counted {g = g} {s = s} n p r es ee callee ran calls =
     let whole : r ≡ length (filter p (range_with_len 0 n)) =
     count_from_yields_List s r ran (YieldsList-from_filter g p (YieldsList-from_range 0 n n (ap₂ (λ (a b : ℕ). record { start = a; end = b }) es ee) (omega arith)) callee calls) in
     whole ∙ filtered p 0 n ∙ count_below_ext n (λ k. p (0 + k)) p (λ k _. let same : 0 + k ≡ k = omega arith in ap p same)
+
+-- ---- words joined by or
+
+or_zero : (a b : ℕ) → eqb (bit_or a b) 0 ≡ (eqb a 0 && eqb b 0)
+or_zero a b = both (eqb a 0) refl (eqb b 0) refl
+  where
+    both : (s : Bool) → eqb a 0 ≡ s → (t : Bool) → eqb b 0 ≡ t → eqb (bit_or a b) 0 ≡ (s && t)
+    both true e true f = eq-eqb (bit_or a b) 0 (omega (arith, eqb-true a 0 e, eqb-true b 0 f, or_add_and a b))
+    both true e false f = ne_eqb _ _ (λ (z : bit_or a b ≡ 0). eqb-false b 0 f (omega (arith, or_add_and a b, and_le_l a b)))
+    both false e t f = ne_eqb _ _ (λ (z : bit_or a b ≡ 0). eqb-false a 0 e (omega (arith, or_add_and a b, and_le_r a b)))
+
+-- the first of n + 1 numbers, and the others
+all_first : (n : ℕ) (p : ℕ → Bool) → all_below (suc n) p ≡ (p 0 && all_below n (λ k. p (suc k)))
+unfolding all_below
+all_first n p =
+    let size : suc n ≡ 1 + n = omega arith in
+    ap (λ (m : ℕ). all_below m p) size ∙ all_below_add 1 n p
+    ∙ ap₂ ◌&&◌ (all_below_step 0 p) (all_below_ext n (λ k. p (1 + k)) (λ k. p (suc k)) (λ k _. let same : 1 + k ≡ suc k = omega arith in ap p same))
+
+-- onto a word a
+pub joined_onto : (ws : List ℕ) (a : ℕ) → eqb (fold bit_or a ws) 0 ≡ (eqb a 0 && all_below (length ws) (λ j. eqb (word ws j) 0))
+unfolding all_below
+joined_onto [] a = sym (and-true (eqb a 0))
+joined_onto (w ∷ ws) a =
+    joined_onto ws (bit_or a w) ∙ ap (λ (t : Bool). t && all_below (length ws) (λ j. eqb (word ws j) 0)) (or_zero a w)
+    ∙ and_assoc (eqb a 0) (eqb w 0) (all_below (length ws) (λ j. eqb (word ws j) 0))
+    ∙ ap (λ (t : Bool). eqb a 0 && t) (sym (all_first (length ws) (λ j. eqb (word (w ∷ ws) j) 0)))
+
+pub joined : (ws : List ℕ) → eqb (fold bit_or 0 ws) 0 ≡ all_below (length ws) (λ j. eqb (word ws j) 0)
+joined ws = joined_onto ws 0

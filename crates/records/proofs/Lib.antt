@@ -1,4 +1,3 @@
 pub mod ChainLaws
-pub mod LoopLaws
 pub mod OwnLaws
 pub mod RecordsLaws

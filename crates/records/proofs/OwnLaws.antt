@@ -2,23 +2,22 @@
 -- Assumes nothing.
 use Prim.Native.Nat.{ℕ, zero, suc, ◌+◌, ◌-◌, ◌*◌, ◌/◌, ◌%◌, ◌^◌, ◌≤◌, ◌<◌, min, zero-le}
 use mathlib.Core.Path.{◌≡◌, refl, sym, ap, ap₂, ◌∙◌}
-use mathlib.Core.Bool.{Bool, true, false, cond, not, ◌&&◌, ◌||◌, or-true, or-false}
+use mathlib.Core.Bool.{Bool, true, false, cond, ◌&&◌, ◌||◌, or-true, or-false}
 use mathlib.Core.List.{List}
 use native.Mathlib.Decide.{dec_lt}
 use native.Mathlib.Omega.{arith}
 use lib.ListN.{length, get_or-eq_default}
 use lib.Bits.{bit_or, or_lt}
-use lib.Pow.{shr_le}
 use lib.Dec.{eqb, leb, ltb}
 use borrow.Author.Tests.{eqb-true, leb-true, eq-eqb, ne_eqb, le-leb, lt-leb, lt-ltb, le-ltb}
 use Rattle.model.specs.Below.{all_below}
-use Rattle.model.specs.Word.{word, part, bit, ones, full, word_of_bits}
+use Rattle.model.specs.Word.{word, part, bit, full, word_of_bits}
 use Rattle.model.specs.Class.{is_class, blocks, words_for, level_words, level_end}
 use Rattle.model.specs.Layout.{level_at, level_room, padded_word, level_word}
 use Rattle.model.specs.View.{bit_in}
 use Rattle.model.specs.Sound.{levels_right}
 use Rattle.laws.proofs.Below.{all_below_step, all_below_at, all_below_intro, all_below_ext, all_below_split}
-use Rattle.laws.proofs.Bits.{bit_zero, bit_shift, bit_not, bit_ones, bit_of_or, bit_past, bit_word_of_bits, word_of_bits_lt, word_of_bits_ext, word_of_its_bits, word_ext}
+use Rattle.laws.proofs.Bits.{bit_zero, bit_of_or, bit_word_of_bits, word_of_bits_lt, word_of_bits_ext, word_of_its_bits, word_ext}
 use Rattle.laws.proofs.Splice.{length_part, word_part}
 use Rattle.words.proofs.ClassLaws.{class_rule, blocks_most}
 use Rattle.bitmap.proofs.LevelLaws.{level_set, level_word_is, padded_used, padded_unused, padded_ext, words_room, level_inside}
@@ -30,16 +29,6 @@ use Rattle.records.specs.Own.{own_set, own_word, word_right, level_right, Lowest
 -- a word is the one that has these bits
 word_is : (w : ℕ) (f : ℕ → Bool) → w < 2 ^ 32 → ((b : ℕ) → b < 32 → bit w b ≡ f b) → w ≡ word_of_bits f
 word_is w f h e = word_ext w (word_of_bits f) h (word_of_bits_lt f) (λ b l. e b l ∙ sym (bit_word_of_bits f b l))
-
--- `!(0xFFFF_FFFF >> (32 - n))`
-pub padding_is : (n : ℕ) → 1 ≤ n → n ≤ 32 → ones - ones / 2 ^ (32 - n) ≡ word_of_bits (λ b. leb n b)
-padding_is n low high =
-    word_is (ones - ones / 2 ^ (32 - n)) (λ b. leb n b) (omega arith)
-    (λ b l. bit_not (ones / 2 ^ (32 - n)) b (omega (arith, shr_le ones (32 - n))) l ∙ ap not (bit_shift ones (32 - n) b) ∙ past b l (dec_lt b n))
-  where
-    past : (b : ℕ) → b < 32 → Dec (b < n) → not (bit ones (32 - n + b)) ≡ leb n b
-    past b l (yes h) = rw (bit_ones (32 - n + b) (omega arith)) (sym (lt-leb n b h))
-    past b l (no h) = rw (bit_past 32 ones (32 - n + b) (omega arith) (omega arith)) (sym (le-leb n b (omega arith)))
 
 -- ---- which words are full, one after the other
 

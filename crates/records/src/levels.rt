@@ -13,7 +13,7 @@ ghost use Rattle.records.specs.Own.{own_word, word_right, level_right, LowestOf,
 
 use crate::zero::zero;
 use bitmap::levels::word_at;
-use words::bits::with_bit;
+use words::bits::{ones_from, with_bit};
 use words::class::blocks;
 
 // How many words hold n bits.
@@ -38,14 +38,6 @@ fn bits_in(end: u32, j: u32) -> u32
     ensures { (result ≡ min 32 (end - 32 * j)) × (1 ≤ result) }
 {
     (end - 32 * j).min(32)
-}
-
-// The word that is 1 from bit n on.
-fn padding(n: u32) -> u32
-    requires { (1 ≤ n) × (n ≤ 32) }
-    ensures { result ≡ word_of_bits (λ b. leb n b) }
-{
-    !(0xFFFF_FFFF >> (32 - n))
 }
 
 // The word with bit b set as well if that word below is full.
@@ -92,7 +84,7 @@ fn own_word(rec: &[u32], level: u32, words: u32, end: u32, j: u32) -> u32
         return 0;
     }
     let n = bits_in(end, j);
-    full_below(rec, level, j, n) | padding(n)
+    full_below(rec, level, j, n) | ones_from(n)
 }
 
 fn word_right(rec: &[u32], level: u32, words: u32, end: u32, j: u32) -> bool
@@ -118,7 +110,7 @@ fn lowest_right(rec: &[u32], words: u32, end: u32) -> bool
     let last = rec[word_at(0, words - 1)];
     let n = bits_in(end, words - 1);
     let unused = 1 + words as usize;
-    last == last | padding(n) && zero(&rec[unused..65])
+    last == last | ones_from(n) && zero(&rec[unused..65])
 }
 
 // Above level 0 a level ends after as many bits as the level below has words.

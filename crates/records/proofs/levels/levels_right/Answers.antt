@@ -1,10 +1,9 @@
 -- `records::levels::levels_right` meets its contract: levels that are right by the words of the record itself are right (OwnLaws).
 -- Assumes nothing.
-use mathlib.Core.Path.{◌≡◌, ◌∙◌}
+use mathlib.Core.Path.{◌≡◌}
 use native.Mathlib.Omega.{arith}
 use Rattle.std.proofs.Common.{rules}
 use Rattle.model.specs.Sound.{levels_right}
-use Rattle.words.proofs.ClassLaws.{class_bounds}
 use Rattle.records.proofs.OwnLaws.{blocks_bounds, by_own, levels_own}
 use Rattle.records.proofs.levels.levels_right.Goals as goal
 use Rattle.records.proofs.levels.levels_right.Goals.{After-words_above-top}
