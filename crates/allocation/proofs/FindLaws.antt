@@ -1,6 +1,6 @@
 -- What the search finds is the block that document 01 says is given: by the ways out of the search.
 -- Assumes nothing.
-use Prim.Native.Nat.{ℕ, ◌+◌, ◌-◌, ◌≤◌, ◌<◌, zero-le}
+use Prim.Native.Nat.{ℕ, ◌+◌, ◌-◌, ◌≤◌, ◌<◌}
 use mathlib.Core.Path.{◌≡◌, refl, sym, ap, ap₂, ◌∙◌}
 use mathlib.Core.Bool.{Bool, true, false, not, cond}
 use mathlib.Core.List.{List}
@@ -139,9 +139,6 @@ module _ {ws : List ℕ} {i q k : ℕ} (h : AtPlace ws i q k) where
     taken_up_to j l = up_to (λ (j : ℕ). has_untaken ws (ranked ws i j) ≡ false) taken_here before_place j (omega arith)
 
     -- then the segment behind it has one
-    pub next_asked : q + 1 < members ws i → FreeAt ws i (q + 1) 0
-    next_asked l = record { is_sound = h.search.is_sound; class = h.search.class; ranked = l; inside = zero-le }
-
     pub found_next : (next : Option Spot) → q + 1 < members ws i → FindsFree ws i (q + 1) 0 next → Finds ws i (option_map Here next)
     found_next next l = go next (some_behind ws facts i h.search.class (q + 1) l behind)
       where

@@ -1,20 +1,16 @@
 -- What the search for a block asks and finds.
 -- Assumes nothing.
-use Rattle.std.specs.Prelude.{ℕ, ◌-◌, ◌≤◌, ◌<◌, ◌≡◌, Bool, true, false, not, ◌&&◌, List, Option, Some, None, length, eqb, ltb}
+use Rattle.std.specs.Prelude.{ℕ, ◌-◌, ◌≤◌, ◌<◌, ◌≡◌, true, false, not, List, Option, Some, None, length, ltb}
 use Rattle.std.specs.Bool.{then_some}
 use Rattle.model.specs.Below.{first_from}
 use Rattle.model.specs.Class.{is_class, blocks}
 use Rattle.model.specs.Layout.{arena_length}
-use Rattle.model.specs.View.{segments, class, rank, bit_of, members, ranked}
+use Rattle.model.specs.View.{segments, bit_of, members, ranked}
 use Rattle.model.specs.Sound.{sound}
 use Rattle.model.specs.Calls.{class_has_untaken, has_pool, given_segment, given_rank, given_index}
 use Rattle.allocation.specs.declared.find.Spot.{Spot}
 use Rattle.allocation.specs.declared.find.Found.{Found}
 use Rattle.allocation.specs.declared.find.Found.TheVariants.{Here, Joins}
-
--- segment s is of class i, and of rank q in it
-abbrev pub has_rank : List ℕ → ℕ → ℕ → ℕ → Bool
-has_rank ws i q s = eqb (class ws s) i && eqb (rank ws s) q
 
 -- ---- what is asked
 

@@ -20,7 +20,7 @@ use Rattle.laws.proofs.Below.{all_below_step, all_below_at, all_below_intro, all
 use Rattle.laws.proofs.Bits.{bit_zero, bit_of_or, bit_word_of_bits, word_of_bits_lt, word_of_bits_ext, word_of_its_bits, word_ext}
 use Rattle.laws.proofs.Splice.{length_part, word_part}
 use Rattle.words.proofs.ClassLaws.{class_rule, blocks_most}
-use Rattle.bitmap.proofs.LevelLaws.{level_set, level_word_is, padded_used, padded_unused, padded_ext, words_room, level_inside}
+use Rattle.bitmap.proofs.LevelLaws.{level_set, level_word_is, padded_used, padded_unused, padded_ext, words_room}
 use Rattle.soundness.proofs.Tests.{Order, is_below, is_same, is_above, order}
 use Rattle.records.specs.Own.{own_set, own_word, word_right, level_right, LowestOf}
 
@@ -146,23 +146,12 @@ module _ (rec : List ℕ) (words end : ℕ) (h : LowestOf rec words end) (fits :
       ap₂ zeros long behind
       ∙ sym (lowest_is ∙ ap (λ (t : Bool). t && zeros (64 - words) (part rec (1 + words) (64 - words))) e)
 
--- ---- where the words stand
-
-pub room_most : (l : ℕ) → level_room l ≤ 64
-room_most zero = omega arith
-room_most (suc zero) = omega arith
-room_most (suc (suc l)) = omega arith
-
--- n words of a level from word 32 j on end inside the record
-pub words_inside : (l j n : ℕ) → l < 3 → 1 ≤ n → 32 * j + n ≤ level_room l → level_at l + 32 * j + n ≤ 68
-words_inside l j n l<3 some inside = omega (arith, level_inside l (32 * j + n - 1) l<3 (omega arith))
+-- ---- levels
 
 -- level 0 of a class ends inside a record, and not before it has begun
 pub blocks_bounds : (i : ℕ) → is_class i ≡ true → (1 ≤ blocks i) × (blocks i ≤ 2048)
 unfolding all_below
 blocks_bounds i class = (leb-true _ _ (class_rule (λ i. leb 1 (blocks i)) refl i class), blocks_most i class)
-
--- ---- levels
 
 -- level l by the record's own words, and by the class and the level-0 bits
 abbrev own_right : ℕ → List ℕ → ℕ → Bool

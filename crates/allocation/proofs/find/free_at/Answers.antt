@@ -30,13 +30,6 @@ first_free-k-requires c =
     free_asked a.arena.now a.class a.rank a.from.0 _ c.record_of.result.now c.requires
     (found (goal.at.first_free-k-requires c).In_ok-segment) c.record_of.ensures
 
-pub returns-then-k-blocks : goal.returns-then-k-blocks
-returns-then-k-blocks c =
-    let a = c.args in
-    sym (free_is a.arena.now a.class a.rank a.from.0 _ c.record_of.result.now _
-    (found (goal.at.returns-then-k-blocks c).In_ok-segment) c.record_of.ensures c.first_free-k.ensures)
-    ∙ c.if-k-blocks.true ∙ c.blocks-2.ensures
-
 pub returns : goal.returns
 returns c =
     let a = c.args in
