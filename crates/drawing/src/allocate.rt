@@ -33,15 +33,15 @@ fn allocate_sound(arena: &mut [u32], n: u32, r: u32, tag: u8) -> Allocated
         tag: tag,
     };
     match find(arena, class) {
-        Found::Here(spot) => {
+        Some(Found::Here(spot)) => {
             give(arena, class, spot, shape);
             given(spot)
         }
-        Found::Joins(spot) => {
+        Some(Found::Joins(spot)) => {
             give_joining(arena, class, spot, shape);
             given(spot)
         }
-        Found::NoRoom => Allocated::NoRoom,
+        None => Allocated::NoRoom,
     }
 }
 

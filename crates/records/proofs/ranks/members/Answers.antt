@@ -1,19 +1,17 @@
--- `records::ranks::members` meets its contract: the counting loop of LoopLaws, over the segments.
+-- `records::ranks::members` meets its contract: of the segments those are counted that pass.
 -- Assumes nothing.
-use native.Mathlib.Omega.{arith}
+use Prim.Native.Nat.{ℕ}
+use mathlib.Core.Path.{ap, ◌∙◌}
+use Rattle.std.proofs.Common.{rules, tests}
+use Rattle.std.specs.declared.ops.Range.{Range}
 use Rattle.model.specs.View.{members}
-use Rattle.records.proofs.LoopLaws.{none_counted, one_counted, all_counted}
+use Rattle.records.specs.Judged.{has_class}
+use Rattle.records.proofs.ChainLaws.{counted}
 use Rattle.records.proofs.ranks.members.Goals as goal
-
-pub loop-s-init : goal.loop-s-init
-loop-s-init c = none_counted _ _
-
-pub overflow_add-m : goal.overflow_add-m
-overflow_add-m c = omega (arith, (one_counted c.loop-s.invariant (omega arith) c.has_class.ensures c.one_if-m.ensures).most)
-
-pub loop-s-preserved : goal.loop-s-preserved
-loop-s-preserved c = one_counted c.loop-s.invariant (omega arith) c.has_class.ensures c.one_if-m.ensures
 
 pub returns : goal.returns
 unfolding members
-returns c = all_counted c.loop-s.invariant (omega arith)
+returns c =
+    let a = c.args in
+    counted _ (has_class a.arena.now a.class) _ (ap (λ (s : Range ℕ). s.start) c.filter.ensures.source) (ap (λ (s : Range ℕ). s.end) c.filter.ensures.source ∙ c.segments.ensures)
+    c.filter.ensures.closure c.count.ensures.ran (λ x t q k. search (rules, tests))
