@@ -1,12 +1,8 @@
--- `taken::ask::ask_all` meets its contract. The loop's invariant: the words before p have been asked.
--- Assumes nothing.
-use Prim.Native.Nat.{◌-◌, ◌≤◌}
-use lib.ListN.{length}
-use Rattle.taken.specs.Row.{AskedBelow}
+-- `taken::ask::ask_all` meets its contract. The loop's invariant: the words before this one have been asked. Assumes nothing.
+use Rattle.std.proofs.Common.{◌≡◌, get_or}
+use Rattle.model.specs.Below.{all_below}
+use Rattle.taken.specs.Row.{row_none_or_taken, seen_right}
 use Rattle.taken.proofs.ask.ask_all.Given as goal
 
-abbrev pub invariant-loop-p : goal.invariant-loop-p
-invariant-loop-p l = (l.p ≤ length l.words) × AskedBelow l.row l.words l.p l.seen.all l.seen.over
-
-abbrev pub decreases-loop-p : goal.decreases-loop-p
-decreases-loop-p l = length l.words - l.p
+abbrev pub invariant-loop-h : goal.invariant-loop-h
+invariant-loop-h l = seen_right l.seen.all l.seen.over ≡ all_below l.h-index (λ p. row_none_or_taken l.row (get_or l.words p 0))
