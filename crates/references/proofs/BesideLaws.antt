@@ -20,7 +20,8 @@ use Rattle.laws.proofs.Below.{all_below_at, all_below_intro, all_below_ext, all_
 use Rattle.laws.proofs.Splice.{length_part, part_part}
 use Rattle.words.proofs.ClassLaws.{bounds_class, blocks_fill}
 use Rattle.words.proofs.HandleLaws.{block_in_arena}
-use Rattle.references.specs.Gather.{all_words, header_right, references_in, headed, references_of, GatheredBelow, AtFull}
+use Rattle.taken.specs.Row.{all_words}
+use Rattle.references.specs.Gather.{header_right, references_in, headed, references_of, GatheredBelow, AtFull}
 use Rattle.references.specs.Beside.{Beside, beside, reference_or_none, FieldsPut, InColumns, AddedBeside}
 use Rattle.references.proofs.GatherLaws.{all_words_take, all_words_part, header_room, headed_taken, references_taken, block_handed}
 

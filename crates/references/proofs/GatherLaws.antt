@@ -24,19 +24,11 @@ use Rattle.laws.proofs.Bits.{bit_zero, bit_and_pred, trailing_first, word_ext}
 use Rattle.laws.proofs.Splice.{length_part, word_part}
 use Rattle.words.proofs.ClassLaws.{class_rule, bounds_class, class_room}
 use Rattle.words.proofs.HandleLaws.{block_inside, block_in_arena}
-use Rattle.taken.specs.Row.{TakenRow}
-use Rattle.references.specs.Gather.{all_words, header_right, references_in, headed, references_of, Copied, Added, GatheredBelow, Of, AtWord}
-use Rattle.taken.proofs.RowLaws.{taken_at_inside, is_taken_at, row_bit_taken}
+use Rattle.taken.specs.Row.{all_words, TakenRow}
+use Rattle.references.specs.Gather.{header_right, references_in, headed, references_of, Copied, Added, GatheredBelow, Of, AtWord}
+use Rattle.taken.proofs.RowLaws.{all_words_append, taken_at_inside, is_taken_at, row_bit_taken}
 
 -- ---- a test of each word of a list
-
-pub all_words_append : (p : ℕ → Bool) (xs ys : List ℕ) → all_words p (xs ++ ys) ≡ (all_words p xs && all_words p ys)
-all_words_append p xs ys =
-    ap (λ (n : ℕ). all_below n (λ f. p (word (xs ++ ys) f))) (length-append xs ys)
-    ∙ all_below_add (length xs) (length ys) (λ f. p (word (xs ++ ys) f))
-    ∙ ap₂ ◌&&◌
-    (all_below_ext (length xs) (λ f. p (word (xs ++ ys) f)) (λ f. p (word xs f)) (λ f l. ap p (get_or-append xs ys 0 f l)))
-    (all_below_ext (length ys) (λ f. p (word (xs ++ ys) (length xs + f))) (λ f. p (word ys f)) (λ f l. ap p (get_or-append-add xs ys f 0)))
 
 pub all_words_take : (p : ℕ → Bool) (n : ℕ) (xs : List ℕ) → n ≤ length xs → all_words p (take n xs) ≡ all_below n (λ f. p (word xs f))
 all_words_take p n xs l =

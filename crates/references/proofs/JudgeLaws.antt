@@ -17,8 +17,8 @@ use Rattle.model.specs.Standing.{in_pool, taken_at, none_or_taken}
 use Rattle.model.specs.Sound.{block_right, taken_right}
 use Rattle.laws.proofs.Below.{all_below_at, all_below_ext, all_below_fails, all_below_finds}
 use Rattle.words.proofs.ClassLaws.{bounds_class, blocks_most}
-use Rattle.taken.specs.Row.{TakenRow, row_taken, row_none_or_taken}
-use Rattle.references.specs.Gather.{all_words, references_in, header_right, headed, references_of, right_at, segment_right, GatheredBelow, Of}
+use Rattle.taken.specs.Row.{all_words, TakenRow, row_taken, row_none_or_taken}
+use Rattle.references.specs.Gather.{references_in, header_right, headed, references_of, right_at, segment_right, GatheredBelow, Of}
 use Rattle.taken.proofs.RowLaws.{row_none_or_taken_is, row_taken_is, is_taken_at}
 use Rattle.references.proofs.GatherLaws.{all_words_ext, all_words_part, header_room, headed_free, headed_taken, references_free, references_taken, block_long, block_handed, taken_inside}
 

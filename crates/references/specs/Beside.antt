@@ -5,7 +5,8 @@ use Rattle.model.specs.Below.{all_below}
 use Rattle.model.specs.Word.{word, part}
 use Rattle.model.specs.Class.{block_words}
 use Rattle.model.specs.View.{r_in, reference_in}
-use Rattle.references.specs.Gather.{all_words, header_right, references_in}
+use Rattle.taken.specs.Row.{all_words}
+use Rattle.references.specs.Gather.{header_right, references_in}
 
 -- blocks of 2 or 4 words
 pub record Beside (words : List ℕ) (size : ℕ) : Type 0 where

@@ -9,15 +9,11 @@ use Rattle.model.specs.View.{segments, class, block_of, n_in, r_in}
 use Rattle.model.specs.Standing.{in_pool, taken_at}
 use Rattle.model.specs.Sound.{block_right}
 use Rattle.arena.specs.Inside.{Classed}
-use Rattle.taken.specs.Row.{Member, TakenRow}
+use Rattle.taken.specs.Row.{all_words, Member, TakenRow}
 
 -- a header of class i: "n whose class is the segment's, r not above n"
 unfoldable pub header_right : ℕ → List ℕ → Bool
 header_right i b = eqb (class_of (n_in b)) i && leb (r_in b) (n_in b)
-
--- a test of each word of a list
-abbrev pub all_words : (ℕ → Bool) → List ℕ → Bool
-all_words p xs = all_below (length xs) (λ f. p (word xs f))
 
 -- a block's references
 abbrev pub references_in : List ℕ → List ℕ

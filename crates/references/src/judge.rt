@@ -5,8 +5,8 @@ ghost use Rattle.model.specs.Class.{blocks};
 ghost use Rattle.model.specs.View.{r_in};
 ghost use Rattle.model.specs.Sound.{taken_right};
 ghost use Rattle.arena.specs.Inside.{Classed};
-ghost use Rattle.taken.specs.Row.{row_none_or_taken, TakenRow};
-ghost use Rattle.references.specs.Gather.{all_words, references_in, right_at, AtSegment, AtLarge, Large, Judging, Judged};
+ghost use Rattle.taken.specs.Row.{all_words, row_none_or_taken, TakenRow};
+ghost use Rattle.references.specs.Gather.{references_in, right_at, AtSegment, AtLarge, Large, Judging, Judged};
 
 use crate::gather::{Member, gather_segment, header_right};
 use arena::{block_of, class, segments};

@@ -4,16 +4,16 @@ use Prim.Native.Nat.{ℕ, zero, suc, ◌+◌, ◌-◌, ◌*◌, ◌/◌, ◌%◌
 use mathlib.Core.Path.{◌≡◌, refl, sym, ap, ap₂, ◌∙◌}
 use mathlib.Core.Bool.{Bool, true, false, not, ◌&&◌, ◌||◌, and_comm, and-false}
 use mathlib.Core.Logic.{◌⊎◌, inl, inr}
-use mathlib.Core.List.{List}
+use mathlib.Core.List.{List, ◌++◌}
 use native.Mathlib.Nat.{add-zero}
 use native.Mathlib.Numerals.{add-one}
 use native.Mathlib.Omega.{arith}
 use Rattle.std.proofs.Common.{sum_by}
 use Rattle.std.proofs.lemmas.List.Sums.{sum_by_more}
 use lib.Dec.{eqb, ltb}
-use lib.ListN.{length, get_or, set, replicate, take, drop, length-drop, length-set, length-replicate, get_or-replicate, get_or-eq_default}
+use lib.ListN.{length, get_or, set, replicate, take, drop, length-drop, length-set, length-replicate, get_or-replicate, get_or-eq_default, length-append, get_or-append}
 use native.Mathlib.Decide.{dec_lt}
-use lib.Seq.{get_or-set_same, get_or-set_other, get_or-drop}
+use lib.Seq.{get_or-set_same, get_or-set_other, get_or-drop, get_or-append-add}
 use lib.Bits.{bit_and, bit_or, or_lt, and_lt, or_add_and, and_le_l, and_le_r}
 use lib.Pow.{shr_le}
 use borrow.Author.Count.{below_more}
@@ -24,11 +24,11 @@ use Rattle.model.specs.Class.{blocks, words_for}
 use Rattle.model.specs.Layout.{arena_length, record_at, segment_of, index_of}
 use Rattle.model.specs.View.{segments, place_rank, place_index, record_of, class, rank, bit_of}
 use Rattle.model.specs.Standing.{in_pool, is_block, before_place, taken_at, is_taken, none_or_taken, taken_count}
-use Rattle.laws.proofs.Below.{all_below_step, count_below_ext, count_below_add}
+use Rattle.laws.proofs.Below.{all_below_ext, all_below_add, count_below_ext, count_below_add}
 use Rattle.laws.proofs.Splice.{length_part}
 use Rattle.laws.proofs.Bits.{bit_zero, bit_ones, bit_past, bit_pow, bit_shift, bit_of_and, bit_of_or, bit_word_of_bits, word_of_bits_lt, word_of_bits_ext, word_ext}
 use Rattle.arena.specs.Rows.{row_bit}
-use Rattle.taken.specs.Row.{asked_bit, TakenRow, row_taken, row_none_or_taken, Limit, row_word, Filled, ZeroRow, Blank, Fill, taken_word, Segment, seen_right}
+use Rattle.taken.specs.Row.{asked_bit, TakenRow, row_taken, row_none_or_taken, Limit, row_word, Filled, ZeroRow, Blank, Fill, taken_word, Segment, all_words, seen_right}
 
 -- ---- the word of the ones below a limit
 
@@ -365,6 +365,15 @@ or_below a b = go (ltb a 262144) refl (ltb b 262144) refl
     go true s true t = lt-ltb (bit_or a b) 262144 (or_lt 18 a b (ltb-true a 262144 s) (ltb-true b 262144 t))
     go true s false t = le-ltb (bit_or a b) 262144 (omega (arith, ltb-false b 262144 t, or_add_and a b, and_le_l a b))
     go false s u t = le-ltb (bit_or a b) 262144 (omega (arith, ltb-false a 262144 s, or_add_and a b, and_le_r a b))
+
+-- the words of two lists
+pub all_words_append : (p : ℕ → Bool) (xs ys : List ℕ) → all_words p (xs ++ ys) ≡ (all_words p xs && all_words p ys)
+all_words_append p xs ys =
+    ap (λ (n : ℕ). every n (λ f. p (word (xs ++ ys) f))) (length-append xs ys)
+    ∙ all_below_add (length xs) (length ys) (λ f. p (word (xs ++ ys) f))
+    ∙ ap₂ ◌&&◌
+    (all_below_ext (length xs) (λ f. p (word (xs ++ ys) f)) (λ f. p (word xs f)) (λ f l. ap p (get_or-append xs ys 0 f l)))
+    (all_below_ext (length ys) (λ f. p (word (xs ++ ys) (length xs + f))) (λ f. p (word ys f)) (λ f l. ap p (get_or-append-add xs ys f 0)))
 
 -- one word more
 pub seen_word : (all over w h : ℕ) (row : List ℕ) → bit w 0 ≡ asked_bit row h

@@ -1,6 +1,6 @@
 -- The taken row: a row of 8,192 words (crate arena, Rows) in which the bit of handle h is 1 exactly if h is 0 or the handle of a taken block.
 -- Assumes nothing.
-use Rattle.std.specs.Prelude.{ℕ, ◌+◌, ◌*◌, ◌/◌, ◌%◌, ◌≤◌, ◌<◌, ◌≡◌, ◌⊎◌, Bool, not, ◌&&◌, ◌||◌, List, length, get_or, eqb, ltb}
+use Rattle.std.specs.Prelude.{ℕ, ◌+◌, ◌*◌, ◌/◌, ◌%◌, ◌≤◌, ◌<◌, ◌≡◌, ◌⊎◌, Bool, not, ◌&&◌, ◌||◌, List, length, eqb, ltb}
 use Rattle.model.specs.Below.{all_below}
 use Rattle.model.specs.Word.{word, bit, word_of_bits}
 use Rattle.model.specs.Class.{blocks}
@@ -25,6 +25,10 @@ abbrev pub row_taken : List ℕ → ℕ → Bool
 row_taken row h = not (eqb h 0) && row_none_or_taken row h
 
 -- ---- asking it of many words
+
+-- a test of each word of a list
+abbrev pub all_words : (ℕ → Bool) → List ℕ → Bool
+all_words p xs = all_below (length xs) (λ f. p (word xs f))
 
 -- what is seen of some words: each is low enough for a handle, as `over` is, which has every bit of any of them, and the lowest bit of `all` is set
 abbrev pub seen_right : ℕ → ℕ → Bool

@@ -3,7 +3,7 @@ ghost use Rattle.std.specs.Prelude.{◌≡◌, ◌+◌, ◌*◌, ◌≤◌, ◌&
 ghost use Rattle.model.specs.Below.{all_below, count_below};
 ghost use Rattle.model.specs.Word.{bit};
 ghost use Rattle.arena.specs.Rows.{row_bit};
-ghost use Rattle.taken.specs.Row.{asked_bit, row_taken, row_none_or_taken, seen_right};
+ghost use Rattle.taken.specs.Row.{asked_bit, row_taken, row_none_or_taken, all_words, seen_right};
 
 use words::bits::ones;
 
@@ -47,17 +47,30 @@ impl Seen {
             over: self.over | h,
         }
     }
+
+    // So many words more.
+    fn words(self, row: &[u32; 8192], words: &[u32]) -> Seen
+        ensures { seen_right result.all result.over ≡ (seen_right self.all self.over && all_words (row_none_or_taken row.now) words.now) }
+    {
+        let mut seen = self;
+        for h in words {
+            seen = seen.word(row, *h);
+        }
+        seen
+    }
 }
 
-// All words.
+// All words, four at a time while there are as many.
 fn ask_all(row: &[u32; 8192], words: &[u32]) -> Seen
-    ensures { seen_right result.all result.over ≡ all_below (length words.now) (λ p. row_none_or_taken row.now (get_or words.now p 0)) }
+    ensures { seen_right result.all result.over ≡ all_words (row_none_or_taken row.now) words.now }
 {
     let mut seen = Seen { all: 1, over: 0 };
-    for h in words {
-        seen = seen.word(row, *h);
+    let mut rest = words;
+    while let Some((four, tail)) = rest.split_first_chunk::<4>() {
+        seen = seen.words(row, four);
+        rest = tail;
     }
-    seen
+    seen.words(row, rest)
 }
 
 // Each of some words is 0 or the handle of a taken block. No branch depends on what they are.

@@ -3,8 +3,7 @@ use Prim.Native.Nat.{ℕ}
 use native.Mathlib.Nat.{sub-zero}
 use mathlib.Core.Path.{ap, ◌∙◌}
 use lib.ListN.{take}
-use Rattle.taken.specs.Row.{row_none_or_taken}
-use Rattle.references.specs.Gather.{all_words}
+use Rattle.taken.specs.Row.{all_words, row_none_or_taken}
 use Rattle.references.proofs.judge.flat_right.Goals as goal
 
 pub returns : goal.returns

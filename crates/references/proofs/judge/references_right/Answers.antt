@@ -4,8 +4,7 @@ use native.Mathlib.Omega.{arith}
 use mathlib.Core.Path.{◌≡◌, ap, ◌∙◌}
 use Rattle.model.specs.Word.{part}
 use Rattle.model.specs.View.{r_in}
-use Rattle.taken.specs.Row.{row_none_or_taken}
-use Rattle.references.specs.Gather.{all_words}
+use Rattle.taken.specs.Row.{all_words, row_none_or_taken}
 use Rattle.references.proofs.judge.references_right.Goals as goal
 
 pub returns : goal.returns
