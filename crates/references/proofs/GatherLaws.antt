@@ -25,7 +25,7 @@ use Rattle.laws.proofs.Splice.{length_part, word_part}
 use Rattle.words.proofs.ClassLaws.{class_rule, bounds_class, class_room}
 use Rattle.words.proofs.HandleLaws.{block_inside, block_in_arena}
 use Rattle.taken.specs.Row.{all_words, TakenRow}
-use Rattle.references.specs.Gather.{header_right, references_in, headed, references_of, Copied, Added, GatheredBelow, Of, AtWord}
+use Rattle.references.specs.Gather.{header_right, references_in, headed, references_of, Added, GatheredBelow, Of, AtWord}
 use Rattle.taken.proofs.RowLaws.{all_words_append, taken_at_inside, is_taken_at, row_bit_taken}
 
 -- ---- a test of each word of a list
@@ -43,41 +43,15 @@ all_words_part p xs o n l =
     ap (λ (m : ℕ). all_below m (λ f. p (word (part xs o n) f))) (length_part xs o n l)
     ∙ all_below_ext n (λ f. p (word (part xs o n) f)) (λ f. p (word xs (o + f))) (λ f u. ap p (word_part xs o n f u))
 
--- ---- copying one reference more
+-- ---- copying the words of a block
 
-pub copied_none : (b refs : List ℕ) (m : ℕ) → length refs ≡ 4096 → Copied b refs 0 m refs
-copied_none b refs m e = record { long = e; words = ap (λ (n : ℕ). take n refs) (add-zero m) ∙ sym (append-nil (take m refs)) }
-
-pub copied_step : {b refs refs' : List ℕ} {f m : ℕ} → Copied b refs f m refs' → f + 1 < length b → m + f < 4096
-    → Copied b refs (f + 1) m (set refs' (m + f) (word b (1 + f)))
-copied_step {b} {refs} {refs'} {f} {m} c l u = record {
-  long = length-set refs' (m + f) v ∙ c.long;
-  words =
-      ap (λ (n : ℕ). take n (set refs' (m + f) v)) next ∙ take-suc-set refs' (m + f) v (omega (arith, c.long))
-      ∙ ap (λ (xs : List ℕ). xs ++ (v ∷ [])) c.words ∙ append_assoc (take m refs) (part b 1 f) (v ∷ [])
-      ∙ ap (λ (xs : List ℕ). take m refs ++ xs) (sym longer);
-}
-  where
-    v : ℕ
-    v = word b (1 + f)
-
-    next : m + (f + 1) ≡ suc (m + f)
-    next = omega arith
-
-    longer : part b 1 (f + 1) ≡ part b 1 f ++ (v ∷ [])
-    longer =
-        ap (λ (n : ℕ). take n (drop 1 b)) (add-one f) ∙ take-suc (drop 1 b) f 0 (simp length-drop (omega arith))
-        ∙ ap (λ (x : ℕ). part b 1 f ++ (x ∷ [])) (get_or-drop 1 b f 0)
-
--- and fewer of them
-pub copied_less : {b refs refs' : List ℕ} {w m : ℕ} (r : ℕ) → Copied b refs w m refs' → r ≤ w → m ≤ length refs → Copied b refs r m refs'
-copied_less {b} {refs} {refs'} {w} {m} r c l u = record {
-  long = c.long;
-  words =
-      sym (take-take (m + r) (m + w) refs' (omega arith)) ∙ ap (take (m + r)) c.words
-      ∙ ap (λ (n : ℕ). take (n + r) (take m refs ++ part b 1 w)) (sym (length-take-le m refs u))
-      ∙ take-append-add (take m refs) (part b 1 w) r ∙ ap (λ (xs : List ℕ). take m refs ++ xs) (take-take r w (drop 1 b) l);
-}
+-- fewer of them than were copied
+pub copied_less : (b refs refs' : List ℕ) (w m r : ℕ) → take (m + w) refs' ≡ take m refs ++ part b 1 w → r ≤ w → m ≤ length refs
+    → take (m + r) refs' ≡ take m refs ++ part b 1 r
+copied_less b refs refs' w m r c l u =
+    sym (take-take (m + r) (m + w) refs' (omega arith)) ∙ ap (take (m + r)) c
+    ∙ ap (λ (n : ℕ). take (n + r) (take m refs ++ part b 1 w)) (sym (length-take-le m refs u))
+    ∙ take-append-add (take m refs) (part b 1 w) r ∙ ap (λ (xs : List ℕ). take m refs ++ xs) (take-take r w (drop 1 b) l)
 
 -- ---- headers
 
@@ -129,13 +103,13 @@ module _ (ws : List ℕ) (s : ℕ) where
 -- ---- from block to block
 
 -- nothing is gathered yet
-pub gathered_none : (ws : List ℕ) (s : ℕ) (refs : List ℕ) → length refs ≡ 4096 → GatheredBelow ws s 0 refs true 0
+pub gathered_none : (ws : List ℕ) (s : ℕ) → GatheredBelow ws s 0 [] true
 unfolding all_below
-gathered_none ws s refs e = record { long = e; headers = refl; room = λ _. omega arith; few = λ _. omega arith; tests = λ _ p none. refl }
+gathered_none ws s = record { headers = refl; few = λ _. omega arith; tests = λ _ p none. refl }
 
 -- so there is room for those of one block more
-pub gathered_room : {ws : List ℕ} {s k : ℕ} {refs : List ℕ} {m : ℕ} → GatheredBelow ws s k refs true m → is_class (class ws s) ≡ true
-    → k < blocks (class ws s) → m + (block_words (class ws s) - 1) ≤ 4096
+pub gathered_room : {ws : List ℕ} {s k : ℕ} {refs : List ℕ} → GatheredBelow ws s k refs true → is_class (class ws s) ≡ true
+    → k < blocks (class ws s) → length refs + (block_words (class ws s) - 1) ≤ 4096
 gathered_room {ws} {s} {k} g c l =
     omega (
       arith,
@@ -147,45 +121,33 @@ gathered_room {ws} {s} {k} g c l =
     less : (w : ℕ) → w - 1 ≤ w
     less w = omega arith
 
-pub gathered_step : {ws : List ℕ} {s k i : ℕ} {b refs refs' : List ℕ} {m : ℕ} {right : Bool} {count : ℕ} → GatheredBelow ws s k refs true m
-    → taken_at ws s k ≡ true → i ≡ class ws s → b ≡ block_of ws s k → Added i b refs m refs' right count → GatheredBelow ws s (k + 1) refs' right count
-gathered_step {ws} {s} {k} {i} {b} {refs} {refs'} {m} {right} {count} g t e u a = record {
-  long = a.long;
+pub gathered_step : {ws : List ℕ} {s k i : ℕ} {b refs refs' : List ℕ} {right : Bool} → GatheredBelow ws s k refs true
+    → taken_at ws s k ≡ true → i ≡ class ws s → b ≡ block_of ws s k → Added i b refs refs' right → GatheredBelow ws s (k + 1) refs' right
+gathered_step {ws} {s} {k} {i} {b} {refs} {refs'} {right} g t e u a = record {
   headers =
       a.header ∙ ap₂ header_right e u
       ∙ sym (all_below_step k (headed ws s) ∙ ap₂ ◌&&◌ (sym g.headers) (headed_taken ws s k t));
-  room = a.room;
   few = λ r. omega (arith, a.few r, g.few refl, ap block_words e, mul-add (block_words (class ws s) - 1) k 1);
   tests = λ r p none.
-      ap (all_words p) (a.words r) ∙ all_words_append p (take m refs) (references_in b)
+      ap (all_words p) (a.words r) ∙ all_words_append p refs (references_in b)
       ∙ ap₂ ◌&&◌ (g.tests refl p none) (ap (all_words p) (ap references_in u ∙ sym (references_taken ws s k t)))
       ∙ sym (all_below_step k (λ k. all_words p (references_of ws s k)));
 }
 
-pub gathered_skip : {ws : List ℕ} {s a b : ℕ} {refs : List ℕ} {right : Bool} {m : ℕ} → GatheredBelow ws s a refs right m → a ≤ b
-    → ((k : ℕ) → a ≤ k → k < b → taken_at ws s k ≡ false) → GatheredBelow ws s b refs right m
+pub gathered_skip : {ws : List ℕ} {s a b : ℕ} {refs : List ℕ} {right : Bool} → GatheredBelow ws s a refs right → a ≤ b
+    → ((k : ℕ) → a ≤ k → k < b → taken_at ws s k ≡ false) → GatheredBelow ws s b refs right
 gathered_skip {ws} {s} {a} {b} g l free = record {
-  long = g.long;
   headers = g.headers ∙ sym (skip_headed ws s a b l free);
-  room = g.room;
   few = λ r. omega (arith, g.few r, mul-le-mul_left (block_words (class ws s) - 1) l);
   tests = λ r p none. g.tests r p none ∙ sym (skip_tests ws s a b l free p);
 }
 
-pub gathered_right : {ws : List ℕ} {s k : ℕ} {refs : List ℕ} {right : Bool} {m : ℕ} → GatheredBelow ws s k refs right m → right ≡ true
-    → GatheredBelow ws s k refs true m
-gathered_right g e = record { long = g.long; headers = sym e ∙ g.headers; room = λ _. g.room e; few = λ _. g.few e; tests = λ _. g.tests e }
-
 -- one wrong header is enough
-pub gathered_wrong : {ws : List ℕ} {s a b : ℕ} {refs : List ℕ} {right : Bool} {m : ℕ} → GatheredBelow ws s a refs right m → right ≡ false → a ≤ b
-    → GatheredBelow ws s b refs right m
-gathered_wrong {ws} {s} {a} {b} g e l = record {
-  long = g.long;
-  headers =
-      e ∙ sym (all_below_split a b (headed ws s) l ∙ ap (λ (t : Bool). t && all_below (b - a) (λ k. headed ws s (a + k))) (sym g.headers ∙ e));
-  room = λ r. absurd (false≢true (sym e ∙ r));
-  few = λ r. absurd (false≢true (sym e ∙ r));
-  tests = λ r. absurd (false≢true (sym e ∙ r));
+pub gathered_wrong : {ws : List ℕ} {s a b : ℕ} {refs : List ℕ} → GatheredBelow ws s a refs false → a ≤ b → GatheredBelow ws s b refs false
+gathered_wrong {ws} {s} {a} {b} g l = record {
+  headers = sym (all_below_split a b (headed ws s) l ∙ ap (λ (t : Bool). t && all_below (b - a) (λ k. headed ws s (a + k))) (sym g.headers));
+  few = λ r. absurd (false≢true r);
+  tests = λ r. absurd (false≢true r);
 }
 
 -- ---- by the set bits of a word
@@ -234,13 +196,13 @@ module _ (w : ℕ) (h : w < 2 ^ 32) (some : w ≡ 0 → ⊥) where
   left_less = omega (arith, and_le_r w (w - 1))
 
 -- the blocks of word j before the lowest bit that is left are gathered, and from there on the bits left are the word's
-pub record Left (ws : List ℕ) (s j w left : ℕ) (refs : List ℕ) (count : ℕ) : Type 0 where
+pub record Left (ws : List ℕ) (s j w left : ℕ) (refs : List ℕ) : Type 0 where
   pub small : left < 2 ^ 32
   pub bits : (b : ℕ) → b < 32 → count_trailing_zeros 32 left ≤ b → bit left b ≡ bit w b
-  pub gathered : GatheredBelow ws s (32 * j + count_trailing_zeros 32 left) refs true count
+  pub gathered : GatheredBelow ws s (32 * j + count_trailing_zeros 32 left) refs true
 
-module _ {ws : List ℕ} {N s i j w : ℕ} {refs : List ℕ} {m : ℕ} where
-  pub left_all : AtWord ws N s i j w refs m → w < 2 ^ 32 → Left ws s j w w refs m
+module _ {ws : List ℕ} {s j w : ℕ} {refs : List ℕ} where
+  pub left_all : AtWord ws s j w refs → w < 2 ^ 32 → Left ws s j w w refs
   left_all a h = record {
     small = h;
     bits = λ b l u. refl;
@@ -252,9 +214,8 @@ module _ {ws : List ℕ} {N s i j w : ℕ} {refs : List ℕ} {m : ℕ} where
           ap (taken_at ws s) e ∙ sym (a.bits b (omega (arith, trailing_le 32 w))) ∙ trailing_before w b (omega arith)
 
   -- one block more: those between it and the next set bit are not taken
-  pub left_step : {left : ℕ} {refs' : List ℕ} {count : ℕ} → AtWord ws N s i j w refs m → Left ws s j w left refs' count → (left ≡ 0 → ⊥)
-      → {refs'' : List ℕ} {count' : ℕ} → GatheredBelow ws s (32 * j + count_trailing_zeros 32 left + 1) refs'' true count'
-      → Left ws s j w (bit_and left (left - 1)) refs'' count'
+  pub left_step : {left : ℕ} {refs' refs'' : List ℕ} → AtWord ws s j w refs → Left ws s j w left refs' → (left ≡ 0 → ⊥)
+      → GatheredBelow ws s (32 * j + count_trailing_zeros 32 left + 1) refs'' true → Left ws s j w (bit_and left (left - 1)) refs''
   left_step {left} a h some g = record {
     small = omega (arith, h.small, left_less left h.small some);
     bits = λ b l u. left_bit left h.small some b (λ e. omega (arith, later)) ∙ h.bits b l (omega (arith, later));
@@ -271,15 +232,14 @@ module _ {ws : List ℕ} {N s i j w : ℕ} {refs : List ℕ} {m : ℕ} where
           ∙ sym (left_bit left h.small some b (λ d. omega arith)) ∙ trailing_before (bit_and left (left - 1)) b (omega arith)
 
   -- the block of the lowest bit that is left is taken
-  pub left_taken : {left : ℕ} {refs' : List ℕ} {count : ℕ} → AtWord ws N s i j w refs m → Left ws s j w left refs' count → (left ≡ 0 → ⊥)
+  pub left_taken : {left : ℕ} {refs' : List ℕ} → AtWord ws s j w refs → Left ws s j w left refs' → (left ≡ 0 → ⊥)
       → taken_at ws s (32 * j + count_trailing_zeros 32 left) ≡ true
   left_taken {left} a h some =
       let small = trailing_lt left h.small some in
       sym (a.bits (count_trailing_zeros 32 left) small) ∙ sym (h.bits (count_trailing_zeros 32 left) small (omega arith)) ∙ trailing_found left small
 
-pub left_none : {ws : List ℕ} {s j w left : ℕ} {refs : List ℕ} {count : ℕ} → Left ws s j w left refs count → left ≡ 0
-    → GatheredBelow ws s (32 * j + 32) refs true count
-left_none {ws} {s} {j} {w} {left} {refs} {count} h e =
+pub left_none : {ws : List ℕ} {s j w left : ℕ} {refs : List ℕ} → Left ws s j w left refs → left ≡ 0 → GatheredBelow ws s (32 * j + 32) refs true
+left_none {ws} {s} {j} {w} {left} {refs} h e =
     rw (ap (λ (x : ℕ). 32 * j + count_trailing_zeros 32 x) e, trailing_of_zero 32) at h.gathered
 
 -- ---- blocks of the arena
@@ -306,8 +266,8 @@ module _ {ws : List ℕ} {N s i : ℕ} (o : Of ws N s i) where
       length_part ws (block_offset ws s k) (block_words (class ws s))
       (omega (arith, o.member.long, block_in_arena (segments ws) s (class ws s) k o.member.there of_class l))
 
-  pub handed_long : {b : List ℕ} (k : ℕ) → b ≡ part ws (block_at N s i k) (block_words i) → k < blocks (class ws s) → length b ≡ block_words i
-  handed_long k e l = ap length (block_handed k e) ∙ block_long k l ∙ ap block_words (sym o.member.class)
+  pub handed_long : {b : List ℕ} (k : ℕ) → b ≡ block_of ws s k → k < blocks (class ws s) → length b ≡ block_words i
+  handed_long k e l = ap length e ∙ block_long k l ∙ ap block_words (sym o.member.class)
 
 -- ---- word by word
 
@@ -327,6 +287,6 @@ row_word_bits {ws} {row} t s j b there inside small =
     ∙ ap₂ (taken_at ws) (omega arith) (omega arith)
 
 -- where blocks are not large, their bits fill whole words
-pub gathered_end : {ws : List ℕ} {s end : ℕ} {refs : List ℕ} {right : Bool} {m i : ℕ} → GatheredBelow ws s end refs right m → 3 ≤ i → i ≤ 7
-    → end ≡ 32 * words_for (blocks i) → GatheredBelow ws s (blocks i) refs right m
-gathered_end {ws} {s} {end} {refs} {right} {m} {i} g low small e = subst (λ (n : ℕ). GatheredBelow ws s n refs right m) (e ∙ whole_words i low small) g
+pub gathered_end : {ws : List ℕ} {s end : ℕ} {refs : List ℕ} {right : Bool} {i : ℕ} → GatheredBelow ws s end refs right → 3 ≤ i → i ≤ 7
+    → end ≡ 32 * words_for (blocks i) → GatheredBelow ws s (blocks i) refs right
+gathered_end {ws} {s} {end} {refs} {right} {i} g low small e = subst (λ (n : ℕ). GatheredBelow ws s n refs right) (e ∙ whole_words i low small) g

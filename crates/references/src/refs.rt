@@ -1,0 +1,82 @@
+// The references that are gathered of a segment, end to end.
+//
+// A segment has less than 4,096 of them: a block has room for its header besides.
+ghost use Rattle.std.specs.Prelude.{◌≡◌, ◌+◌, [], ◌++◌, length, take};
+ghost use Rattle.model.specs.Word.{part};
+ghost use Rattle.references.specs.Gather.{Copying, Putting};
+
+use std::marker::Model;
+
+// The first `count` words.
+#[derive(Drop)]
+pub struct Refs {
+    pub words: [u32; 4096],
+    pub count: usize,
+}
+
+impl Model for Refs {
+    ghost use Rattle.std.specs.Prelude.{ℕ, List, ◌≤◌, take};
+
+    ghost Value = { List ℕ };
+
+    ghost view = { λ r. take r.count r.words };
+
+    ghost invariant = { λ r. r.count ≤ 4096 };
+}
+
+impl Refs {
+    pub fn new() -> Refs
+        ensures { result ≡ [] }
+    {
+        Refs {
+            words: [0; 4096],
+            count: 0,
+        }
+    }
+
+    pub fn clear(&mut self)
+        ensures { self.new ≡ [] }
+    {
+        self.count = 0;
+    }
+
+    pub fn words(&self) -> &[u32]
+        ensures { result.now ≡ self.now }
+    {
+        &self.words[..self.count]
+    }
+
+    // Puts a block's r references behind them.
+    pub fn put(&mut self, block: &[u32], r: usize)
+        requires { Putting block.now r (length self.old) }
+        ensures { self.new ≡ self.old ++ part block.now 1 r }
+    {
+        put_references(block, r, &mut self.words, self.count);
+        self.count += r;
+    }
+}
+
+// Puts so many words of a block, from the one behind its header on, behind the first m words.
+fn copy(block: &[u32], count: usize, words: &mut [u32; 4096], m: usize)
+    requires { Copying block.now count m }
+    ensures { take (m + count) words.new ≡ take m words.old ++ part block.now 1 count }
+{
+    words[m..m + count].copy_from_slice(&block[1..1 + count]);
+}
+
+// Puts a block's r references there. Words behind them do no harm, since the next block's go over them, and a
+// branch that depends on r costs more than they do: so a small block is copied whole, and a larger one at least 7 words.
+fn put_references(block: &[u32], r: usize, words: &mut [u32; 4096], m: usize)
+    requires { Putting block.now r m }
+    ensures { take (m + r) words.new ≡ take m words.old ++ part block.now 1 r }
+{
+    if block.len() == 2 {
+        copy(block, 1, words, m);
+    } else if block.len() == 4 {
+        copy(block, 3, words, m);
+    } else if 8 <= block.len() && r < 8 {
+        copy(block, 7, words, m);
+    } else {
+        copy(block, r, words, m);
+    }
+}
