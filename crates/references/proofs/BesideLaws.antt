@@ -6,11 +6,12 @@ use mathlib.Core.Bool.{Bool, true, false, not, ◌&&◌, cond, and-true, and-fal
 use mathlib.Core.List.{List}
 use native.Mathlib.Nat.{mul-add, mul-suc, add-zero, mul-le-mul_left, mul-le-mul_right}
 use native.Mathlib.Omega.{arith}
+use Rattle.std.proofs.Common.{Option, Some, None}
 use lib.Dec.{eqb}
 use lib.ListN.{length, take, set}
 use lib.Seq.{get_or-set_same, get_or-set_other, length-take-le}
 use borrow.Author.Count.{below_more}
-use borrow.Author.Tests.{lt-ltb, le-ltb, ne_eqb}
+use borrow.Author.Tests.{lt-ltb, le-ltb, eq-eqb, ne_eqb}
 use Rattle.model.specs.Below.{one_if, all_below}
 use Rattle.model.specs.Word.{word, part}
 use Rattle.model.specs.Class.{is_class, block_words}
@@ -22,7 +23,7 @@ use Rattle.words.proofs.ClassLaws.{bounds_class, blocks_fill}
 use Rattle.words.proofs.HandleLaws.{block_in_arena}
 use Rattle.taken.specs.Row.{all_words}
 use Rattle.references.specs.Gather.{header_right, references_in, headed, references_of, GatheredBelow, Of, AtFull}
-use Rattle.references.specs.Beside.{Beside, beside, reference_or_none, FieldsPut, InColumns, AddedBeside}
+use Rattle.references.specs.Beside.{Beside, beside, reference_or_none, FieldsPut, InColumns, PutBeside, AddedBeside}
 use Rattle.references.proofs.GatherLaws.{all_words_take, all_words_part, header_room, headed_taken, references_taken, block_handed}
 
 -- ---- tests, field by field and block by block
@@ -119,11 +120,11 @@ module _ {words : List ℕ} {size : ℕ} (b : Beside words size) where
   }
 
   pub added_beside : {row row' : List ℕ} {m i wrong : ℕ} → block_words i ≡ size → length row ≡ 4096 → length row' ≡ 4096 → m + 32 * (size - 1) ≤ 4096
-      → InColumns i words size row m 32 row' wrong → AddedBeside i words size (take m row) (take (m + 32 * (size - 1)) row') (eqb wrong 0)
-  added_beside {row} {row'} {m} {i} {wrong} own long long' room c = record {
-    headers = c.headers;
+      → InColumns i words size row m 32 row' wrong → wrong ≡ 0 → PutBeside i words size (take m row) (take (m + 32 * (size - 1)) row')
+  added_beside {row} {row'} {m} {i} {wrong} own long long' room c right = record {
+    headers = headers;
     counted = length-take-le (m + 32 * n) row' (omega arith) ∙ ap (λ (x : ℕ). x + 32 * n) (sym (length-take-le m row (omega arith)));
-    tests = λ yes_right p none.
+    tests = λ p none.
         all_words_take p (m + 32 * n) row' (omega arith)
         ∙ all_below_add m (32 * n) (λ o. p (word row' o))
         ∙ ap₂ ◌&&◌
@@ -136,12 +137,19 @@ module _ {words : List ℕ} {size : ℕ} (b : Beside words size) where
         (λ k u.
         ap (λ (z : ℕ). all_below (z - 1) (λ f. p (reference_or_none (beside words size k) f))) (sym (beside_long k u))
         ∙ one_block (beside words size k)
-        (omega (arith, own, beside_long k u, header_room i (beside words size k) (all_below_at 32 (λ k. header_right i (beside words size k)) (sym c.headers ∙ yes_right) k u)))
+        (omega (arith, own, beside_long k u, header_room i (beside words size k) (all_below_at 32 (λ k. header_right i (beside words size k)) headers k u)))
         p none));
   }
     where
       n : ℕ
       n = size - 1
+
+      headers : all_below 32 (λ k. header_right i (beside words size k)) ≡ true
+      headers = sym c.headers ∙ eq-eqb wrong 0 right
+
+  pub wrong_beside : {row row' : List ℕ} {m i wrong : ℕ} → InColumns i words size row m 32 row' wrong → (wrong ≡ 0 → ⊥)
+      → all_below 32 (λ k. header_right i (beside words size k)) ≡ false
+  wrong_beside {wrong = wrong} c some = sym c.headers ∙ ne_eqb wrong 0 some
 
 -- ---- 32 blocks of a segment
 
@@ -159,7 +167,7 @@ module _ {ws : List ℕ} {N s i j : ℕ} {refs : List ℕ} (of : Of ws N s i) (a
   full_room =
       omega (
         arith,
-        a.gathered.few refl,
+        a.gathered.few,
         own,
         blocks_fill i full_class,
         mul-le-mul_left (block_words i) a.inside,
@@ -182,23 +190,9 @@ module _ {ws : List ℕ} {N s i j : ℕ} {refs : List ℕ} (of : Of ws N s i) (a
         mul-add (block_words i) (32 * j) 31,
       )
 
-  pub full_gathered : {words refs' : List ℕ} {size : ℕ} {right : Bool} → size ≡ block_words i → words ≡ part ws (block_at N s i (32 * j)) (32 * size)
-      → AddedBeside i words size refs refs' right → GatheredBelow ws s (32 * j + 32) refs' right
-  full_gathered {words} {refs'} {size} {right} big e d = record {
-    headers =
-        d.headers
-        ∙ all_below_ext 32 (λ k. header_right i (beside words size k)) (λ k. headed ws s (32 * j + k))
-        (λ k l. ap₂ header_right of.member.class (its_block k l) ∙ sym (headed_taken ws s (32 * j + k) (a.taken k l)))
-        ∙ ap (λ (t : Bool). t && all_below 32 (λ k. headed ws s (32 * j + k))) a.gathered.headers
-        ∙ sym (all_below_add (32 * j) 32 (headed ws s));
-    few = λ _. omega (arith, d.counted, big, own, a.gathered.few refl, mul-add (block_words (class ws s) - 1) (32 * j) 32);
-    tests = λ r p none.
-        d.tests r p none
-        ∙ ap₂ ◌&&◌ (a.gathered.tests refl p none)
-        (all_below_ext 32 (λ k. all_words p (references_in (beside words size k))) (λ k. all_words p (references_of ws s (32 * j + k)))
-        (λ k l. ap (all_words p) (ap references_in (its_block k l) ∙ sym (references_taken ws s (32 * j + k) (a.taken k l)))))
-        ∙ sym (all_below_add (32 * j) 32 (λ k. all_words p (references_of ws s k)));
-  }
+  pub full_gathered : {words : List ℕ} {size : ℕ} (added : Option (List ℕ)) → size ≡ block_words i → words ≡ part ws (block_at N s i (32 * j)) (32 * size)
+      → AddedBeside i words size refs added → GatheredBelow ws s (32 * j + 32) added
+  full_gathered {words} {size} added big e d = go added d
     where
       its_block : (k : ℕ) → k < 32 → beside words size k ≡ block_of ws s (32 * j + k)
       its_block k l =
@@ -207,3 +201,24 @@ module _ {ws : List ℕ} {N s i j : ℕ} {refs : List ℕ} (of : Of ws N s i) (a
           (ap (λ (xs : List ℕ). part xs (size * k) size) e
           ∙ part_part ws (block_at N s i (32 * j)) (32 * size) (size * k) size (omega (arith, big, full_within)) (omega (arith, mul-le-mul_left size l, mul-suc size k))
           ∙ ap₂ (part ws) place big)
+
+      -- the headers of all blocks up to there
+      headers : all_below (32 * j + 32) (headed ws s) ≡ all_below 32 (λ k. header_right i (beside words size k))
+      headers =
+          all_below_add (32 * j) 32 (headed ws s)
+          ∙ ap₂ ◌&&◌ a.gathered.headers
+          (all_below_ext 32 (λ k. headed ws s (32 * j + k)) (λ k. header_right i (beside words size k))
+          (λ k l. headed_taken ws s (32 * j + k) (a.taken k l) ∙ sym (ap₂ header_right of.member.class (its_block k l))))
+
+      go : (added : Option (List ℕ)) → AddedBeside i words size refs added → GatheredBelow ws s (32 * j + 32) added
+      go None wrong = headers ∙ wrong
+      go (Some refs') d = record {
+        headers = headers ∙ d.headers;
+        few = omega (arith, d.counted, big, own, a.gathered.few, mul-add (block_words (class ws s) - 1) (32 * j) 32);
+        tests = λ p none.
+            d.tests p none
+            ∙ ap₂ ◌&&◌ (a.gathered.tests p none)
+            (all_below_ext 32 (λ k. all_words p (references_in (beside words size k))) (λ k. all_words p (references_of ws s (32 * j + k)))
+            (λ k l. ap (all_words p) (ap references_in (its_block k l) ∙ sym (references_taken ws s (32 * j + k) (a.taken k l)))))
+            ∙ sym (all_below_add (32 * j) 32 (λ k. all_words p (references_of ws s k)));
+      }

@@ -7,6 +7,7 @@ use mathlib.Core.List.{List, [], ◌∷◌, ◌++◌, append-nil, append_assoc}
 use native.Mathlib.Nat.{add-zero, mul-add, mul-le-mul_left, mul-le-mul_right}
 use native.Mathlib.Numerals.{add-one}
 use native.Mathlib.Omega.{arith}
+use Rattle.std.proofs.Common.{Option, Some, None}
 use lib.Dec.{eqb, leb, ltb}
 use lib.Bits.{bit_and, and_le_r}
 use lib.Count.{count_trailing_zeros, trailing_le, trailing_of_zero}
@@ -25,7 +26,7 @@ use Rattle.laws.proofs.Splice.{length_part, word_part}
 use Rattle.words.proofs.ClassLaws.{class_rule, bounds_class, class_room}
 use Rattle.words.proofs.HandleLaws.{block_inside, block_in_arena}
 use Rattle.taken.specs.Row.{all_words, TakenRow}
-use Rattle.references.specs.Gather.{header_right, references_in, headed, references_of, Added, GatheredBelow, Of, AtWord}
+use Rattle.references.specs.Gather.{header_right, references_in, headed, references_of, Added, Gathered, GatheredBelow, Of, AtWord}
 use Rattle.taken.proofs.RowLaws.{all_words_append, taken_at_inside, is_taken_at, row_bit_taken}
 
 -- ---- a test of each word of a list
@@ -43,7 +44,32 @@ all_words_part p xs o n l =
     ap (λ (m : ℕ). all_below m (λ f. p (word (part xs o n) f))) (length_part xs o n l)
     ∙ all_below_ext n (λ f. p (word (part xs o n) f)) (λ f. p (word xs (o + f))) (λ f u. ap p (word_part xs o n f u))
 
+-- ---- the first words of a row
+
+-- how many they are
+pub first_words : (words : List ℕ) {refs : List ℕ} {n : ℕ} → (n ≤ 4096) × (length words ≡ 4096) → take n words ≡ refs → n ≡ length refs
+first_words words {refs} {n} (l, e) same = sym (length-take-le n words (omega arith)) ∙ ap length same
+
 -- ---- copying the words of a block
+
+-- one word more
+pub copied_step : (b refs refs' : List ℕ) (f m : ℕ) → take (m + f) refs' ≡ take m refs ++ part b 1 f → f + 1 < length b → m + f < length refs'
+    → take (m + (f + 1)) (set refs' (m + f) (word b (1 + f))) ≡ take m refs ++ part b 1 (f + 1)
+copied_step b refs refs' f m c l u =
+    ap (λ (n : ℕ). take n (set refs' (m + f) v)) next ∙ take-suc-set refs' (m + f) v u
+    ∙ ap (λ (xs : List ℕ). xs ++ (v ∷ [])) c ∙ append_assoc (take m refs) (part b 1 f) (v ∷ [])
+    ∙ ap (λ (xs : List ℕ). take m refs ++ xs) (sym longer)
+  where
+    v : ℕ
+    v = word b (1 + f)
+
+    next : m + (f + 1) ≡ suc (m + f)
+    next = omega arith
+
+    longer : part b 1 (f + 1) ≡ part b 1 f ++ (v ∷ [])
+    longer =
+        ap (λ (n : ℕ). take n (drop 1 b)) (add-one f) ∙ take-suc (drop 1 b) f 0 (simp length-drop (omega arith))
+        ∙ ap (λ (x : ℕ). part b 1 f ++ (x ∷ [])) (get_or-drop 1 b f 0)
 
 -- fewer of them than were copied
 pub copied_less : (b refs refs' : List ℕ) (w m r : ℕ) → take (m + w) refs' ≡ take m refs ++ part b 1 w → r ≤ w → m ≤ length refs
@@ -103,17 +129,17 @@ module _ (ws : List ℕ) (s : ℕ) where
 -- ---- from block to block
 
 -- nothing is gathered yet
-pub gathered_none : (ws : List ℕ) (s : ℕ) → GatheredBelow ws s 0 [] true
+pub gathered_none : (ws : List ℕ) (s : ℕ) → Gathered ws s 0 []
 unfolding all_below
-gathered_none ws s = record { headers = refl; few = λ _. omega arith; tests = λ _ p none. refl }
+gathered_none ws s = record { headers = refl; few = omega arith; tests = λ p none. refl }
 
 -- so there is room for those of one block more
-pub gathered_room : {ws : List ℕ} {s k : ℕ} {refs : List ℕ} → GatheredBelow ws s k refs true → is_class (class ws s) ≡ true
+pub gathered_room : {ws : List ℕ} {s k : ℕ} {refs : List ℕ} → Gathered ws s k refs → is_class (class ws s) ≡ true
     → k < blocks (class ws s) → length refs + (block_words (class ws s) - 1) ≤ 4096
 gathered_room {ws} {s} {k} g c l =
     omega (
       arith,
-      g.few refl,
+      g.few,
       block_inside (class ws s) k c l,
       mul-le-mul_right k (less (block_words (class ws s))),
     )
@@ -121,34 +147,42 @@ gathered_room {ws} {s} {k} g c l =
     less : (w : ℕ) → w - 1 ≤ w
     less w = omega arith
 
-pub gathered_step : {ws : List ℕ} {s k i : ℕ} {b refs refs' : List ℕ} {right : Bool} → GatheredBelow ws s k refs true
-    → taken_at ws s k ≡ true → i ≡ class ws s → b ≡ block_of ws s k → Added i b refs refs' right → GatheredBelow ws s (k + 1) refs' right
-gathered_step {ws} {s} {k} {i} {b} {refs} {refs'} {right} g t e u a = record {
-  headers =
-      a.header ∙ ap₂ header_right e u
-      ∙ sym (all_below_step k (headed ws s) ∙ ap₂ ◌&&◌ (sym g.headers) (headed_taken ws s k t));
-  few = λ r. omega (arith, a.few r, g.few refl, ap block_words e, mul-add (block_words (class ws s) - 1) k 1);
-  tests = λ r p none.
-      ap (all_words p) (a.words r) ∙ all_words_append p refs (references_in b)
-      ∙ ap₂ ◌&&◌ (g.tests refl p none) (ap (all_words p) (ap references_in u ∙ sym (references_taken ws s k t)))
+pub gathered_step : {ws : List ℕ} {s k i : ℕ} {b refs : List ℕ} (added : Option (List ℕ)) → Gathered ws s k refs
+    → taken_at ws s k ≡ true → k < blocks (class ws s) → length b ≡ block_words i → i ≡ class ws s → b ≡ block_of ws s k → Added i b refs added
+    → GatheredBelow ws s (k + 1) added
+gathered_step {ws} {s} {k} {i} {b} {refs} None g t inside long e u wrong =
+    all_below_step k (headed ws s) ∙ ap₂ ◌&&◌ g.headers (headed_taken ws s k t ∙ sym (ap₂ header_right e u) ∙ wrong)
+gathered_step {ws} {s} {k} {i} {b} {refs} (Some refs') g t inside long e u (right, words) = record {
+  headers = all_below_step k (headed ws s) ∙ ap₂ ◌&&◌ g.headers (headed_taken ws s k t ∙ sym (ap₂ header_right e u) ∙ right);
+  few =
+      let room = header_room i b right in
+      omega (
+        arith,
+        ap length words,
+        length-append refs (references_in b),
+        length_part b 1 (r_in b) (omega (arith, long, room)),
+        room,
+        g.few,
+        ap block_words e,
+        mul-add (block_words (class ws s) - 1) k 1,
+      );
+  tests = λ p none.
+      ap (all_words p) words ∙ all_words_append p refs (references_in b)
+      ∙ ap₂ ◌&&◌ (g.tests p none) (ap (all_words p) (ap references_in u ∙ sym (references_taken ws s k t)))
       ∙ sym (all_below_step k (λ k. all_words p (references_of ws s k)));
 }
 
-pub gathered_skip : {ws : List ℕ} {s a b : ℕ} {refs : List ℕ} {right : Bool} → GatheredBelow ws s a refs right → a ≤ b
-    → ((k : ℕ) → a ≤ k → k < b → taken_at ws s k ≡ false) → GatheredBelow ws s b refs right
+pub gathered_skip : {ws : List ℕ} {s a b : ℕ} {refs : List ℕ} → Gathered ws s a refs → a ≤ b
+    → ((k : ℕ) → a ≤ k → k < b → taken_at ws s k ≡ false) → Gathered ws s b refs
 gathered_skip {ws} {s} {a} {b} g l free = record {
-  headers = g.headers ∙ sym (skip_headed ws s a b l free);
-  few = λ r. omega (arith, g.few r, mul-le-mul_left (block_words (class ws s) - 1) l);
-  tests = λ r p none. g.tests r p none ∙ sym (skip_tests ws s a b l free p);
+  headers = skip_headed ws s a b l free ∙ g.headers;
+  few = omega (arith, g.few, mul-le-mul_left (block_words (class ws s) - 1) l);
+  tests = λ p none. g.tests p none ∙ sym (skip_tests ws s a b l free p);
 }
 
 -- one wrong header is enough
-pub gathered_wrong : {ws : List ℕ} {s a b : ℕ} {refs : List ℕ} → GatheredBelow ws s a refs false → a ≤ b → GatheredBelow ws s b refs false
-gathered_wrong {ws} {s} {a} {b} g l = record {
-  headers = sym (all_below_split a b (headed ws s) l ∙ ap (λ (t : Bool). t && all_below (b - a) (λ k. headed ws s (a + k))) (sym g.headers));
-  few = λ r. absurd (false≢true r);
-  tests = λ r. absurd (false≢true r);
-}
+pub gathered_wrong : (ws : List ℕ) (s a b : ℕ) → all_below a (headed ws s) ≡ false → a ≤ b → all_below b (headed ws s) ≡ false
+gathered_wrong ws s a b e l = all_below_split a b (headed ws s) l ∙ ap (λ (t : Bool). t && all_below (b - a) (λ k. headed ws s (a + k))) e
 
 -- ---- by the set bits of a word
 
@@ -199,7 +233,7 @@ module _ (w : ℕ) (h : w < 2 ^ 32) (some : w ≡ 0 → ⊥) where
 pub record Left (ws : List ℕ) (s j w left : ℕ) (refs : List ℕ) : Type 0 where
   pub small : left < 2 ^ 32
   pub bits : (b : ℕ) → b < 32 → count_trailing_zeros 32 left ≤ b → bit left b ≡ bit w b
-  pub gathered : GatheredBelow ws s (32 * j + count_trailing_zeros 32 left) refs true
+  pub gathered : Gathered ws s (32 * j + count_trailing_zeros 32 left) refs
 
 module _ {ws : List ℕ} {s j w : ℕ} {refs : List ℕ} where
   pub left_all : AtWord ws s j w refs → w < 2 ^ 32 → Left ws s j w w refs
@@ -215,7 +249,7 @@ module _ {ws : List ℕ} {s j w : ℕ} {refs : List ℕ} where
 
   -- one block more: those between it and the next set bit are not taken
   pub left_step : {left : ℕ} {refs' refs'' : List ℕ} → AtWord ws s j w refs → Left ws s j w left refs' → (left ≡ 0 → ⊥)
-      → GatheredBelow ws s (32 * j + count_trailing_zeros 32 left + 1) refs'' true → Left ws s j w (bit_and left (left - 1)) refs''
+      → Gathered ws s (32 * j + count_trailing_zeros 32 left + 1) refs'' → Left ws s j w (bit_and left (left - 1)) refs''
   left_step {left} a h some g = record {
     small = omega (arith, h.small, left_less left h.small some);
     bits = λ b l u. left_bit left h.small some b (λ e. omega (arith, later)) ∙ h.bits b l (omega (arith, later));
@@ -238,7 +272,7 @@ module _ {ws : List ℕ} {s j w : ℕ} {refs : List ℕ} where
       let small = trailing_lt left h.small some in
       sym (a.bits (count_trailing_zeros 32 left) small) ∙ sym (h.bits (count_trailing_zeros 32 left) small (omega arith)) ∙ trailing_found left small
 
-pub left_none : {ws : List ℕ} {s j w left : ℕ} {refs : List ℕ} → Left ws s j w left refs → left ≡ 0 → GatheredBelow ws s (32 * j + 32) refs true
+pub left_none : {ws : List ℕ} {s j w left : ℕ} {refs : List ℕ} → Left ws s j w left refs → left ≡ 0 → Gathered ws s (32 * j + 32) refs
 left_none {ws} {s} {j} {w} {left} {refs} h e =
     rw (ap (λ (x : ℕ). 32 * j + count_trailing_zeros 32 x) e, trailing_of_zero 32) at h.gathered
 
@@ -287,6 +321,6 @@ row_word_bits {ws} {row} t s j b there inside small =
     ∙ ap₂ (taken_at ws) (omega arith) (omega arith)
 
 -- where blocks are not large, their bits fill whole words
-pub gathered_end : {ws : List ℕ} {s end : ℕ} {refs : List ℕ} {right : Bool} {i : ℕ} → GatheredBelow ws s end refs right → 3 ≤ i → i ≤ 7
-    → end ≡ 32 * words_for (blocks i) → GatheredBelow ws s (blocks i) refs right
-gathered_end {ws} {s} {end} {refs} {right} {i} g low small e = subst (λ (n : ℕ). GatheredBelow ws s n refs right) (e ∙ whole_words i low small) g
+pub gathered_end : {ws : List ℕ} {s end : ℕ} {refs : List ℕ} {i : ℕ} → Gathered ws s end refs → 3 ≤ i → i ≤ 7
+    → end ≡ 32 * words_for (blocks i) → Gathered ws s (blocks i) refs
+gathered_end {ws} {s} {end} {refs} {i} g low small e = subst (λ (n : ℕ). Gathered ws s n refs) (e ∙ whole_words i low small) g

@@ -19,7 +19,7 @@ use Rattle.model.specs.Sound.{block_right, taken_right}
 use Rattle.laws.proofs.Below.{all_below_at, all_below_ext, all_below_add, all_below_fails, all_below_finds}
 use Rattle.words.proofs.ClassLaws.{bounds_class, blocks_most}
 use Rattle.taken.specs.Row.{all_words, TakenRow, row_taken, row_none_or_taken}
-use Rattle.references.specs.Gather.{references_in, header_right, headed, references_of, right_at, segment_right, GatheredBelow, Of}
+use Rattle.references.specs.Gather.{references_in, header_right, headed, references_of, right_at, segment_right, Gathered, Of}
 use Rattle.taken.proofs.RowLaws.{row_none_or_taken_is, row_taken_is, is_taken_at}
 use Rattle.references.proofs.GatherLaws.{all_words_ext, all_words_part, header_room, headed_free, headed_taken, references_free, references_taken, block_long, block_handed, taken_inside}
 
@@ -87,22 +87,22 @@ module _ {ws : List ℕ} {N s i : ℕ} (o : Of ws N s i) where
           ∙ sym (right_header ws (class ws s) b header)
       go false e = ap (all_words (none_or_taken ws)) (references_free ws s k e)
 
-  pub judged_wrong : {refs : List ℕ} → GatheredBelow ws s (blocks i) refs false → segment_right ws s ≡ false
+  pub judged_wrong : all_below (blocks i) (headed ws s) ≡ false → segment_right ws s ≡ false
   unfolding segment_right
-  judged_wrong g =
-      let found = all_below_finds (blocks i) (headed ws s) (sym g.headers) in
+  judged_wrong wrong =
+      let found = all_below_finds (blocks i) (headed ws s) wrong in
       rw of_used (all_below_fails (blocks (class ws s)) (right_at ws s) found.0 (omega (arith, found.1, ap blocks o.member.class)) (wrong_at found.0 found.2))
 
-  pub judged_right : {refs : List ℕ} {row : List ℕ} {r : Bool} → GatheredBelow ws s (blocks i) refs true → TakenRow ws row
+  pub judged_right : {refs : List ℕ} {row : List ℕ} {r : Bool} → Gathered ws s (blocks i) refs → TakenRow ws row
       → r ≡ all_words (row_none_or_taken row) refs → r ≡ segment_right ws s
   unfolding segment_right
   judged_right {refs} {row} g t tested =
       tested
       ∙ all_words_ext (row_none_or_taken row) (none_or_taken ws) refs (row_none_or_taken_is t)
-      ∙ g.tests refl (none_or_taken ws) refl
+      ∙ g.tests (none_or_taken ws) refl
       ∙ ap (λ (n : ℕ). all_below n (λ k. all_words (none_or_taken ws) (references_of ws s k))) same
       ∙ all_below_ext (blocks (class ws s)) (λ k. all_words (none_or_taken ws) (references_of ws s k)) (right_at ws s)
-      (λ k l. right_references k l (all_below_at (blocks i) (headed ws s) (sym g.headers) k (omega (arith, same))))
+      (λ k l. right_references k l (all_below_at (blocks i) (headed ws s) g.headers k (omega (arith, same))))
       ∙ ap (λ (u : Bool). u || all_below (blocks (class ws s)) (right_at ws s)) (sym of_used)
     where
       same : blocks i ≡ blocks (class ws s)

@@ -1,6 +1,6 @@
 -- 32 blocks that stand side by side, and their references field by field.
 -- Assumes nothing.
-use Rattle.std.specs.Prelude.{ℕ, ◌+◌, ◌-◌, ◌*◌, ◌≤◌, ◌<◌, ◌≡◌, ◌≢◌, Bool, true, cond, ◌&&◌, List, length, eqb, ltb}
+use Rattle.std.specs.Prelude.{ℕ, ◌+◌, ◌-◌, ◌*◌, ◌≤◌, ◌<◌, ◌≡◌, ◌≢◌, Bool, true, false, Option, MatchOption, cond, ◌&&◌, List, length, eqb, ltb}
 use Rattle.model.specs.Below.{all_below}
 use Rattle.model.specs.Word.{word, part}
 use Rattle.model.specs.Class.{block_words}
@@ -54,7 +54,10 @@ pub record AddingBeside (i : ℕ) (words : List ℕ) (size : ℕ) (refs : List �
   pub own : block_words i ≡ size
   pub room : length refs + 32 * (size - 1) ≤ 4096
 
-pub record AddedBeside (i : ℕ) (words : List ℕ) (size : ℕ) (refs refs' : List ℕ) (right : Bool) : Type 0 where
-  pub headers : right ≡ all_below 32 (λ k. header_right i (beside words size k))
+pub record PutBeside (i : ℕ) (words : List ℕ) (size : ℕ) (refs refs' : List ℕ) : Type 0 where
+  pub headers : all_below 32 (λ k. header_right i (beside words size k)) ≡ true
   pub counted : length refs' ≡ length refs + 32 * (size - 1)
-  pub tests : right ≡ true → (p : ℕ → Bool) → p 0 ≡ true → all_words p refs' ≡ (all_words p refs && all_below 32 (λ k. all_words p (references_in (beside words size k))))
+  pub tests : (p : ℕ → Bool) → p 0 ≡ true → all_words p refs' ≡ (all_words p refs && all_below 32 (λ k. all_words p (references_in (beside words size k))))
+
+abbrev pub AddedBeside : ℕ → List ℕ → ℕ → List ℕ → Option (List ℕ) → Type 0
+AddedBeside i words size refs added = MatchOption added (all_below 32 (λ k. header_right i (beside words size k)) ≡ false) (PutBeside i words size refs)

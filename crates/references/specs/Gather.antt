@@ -1,6 +1,6 @@
 -- What the judge gathers of a segment: whether the headers of its taken blocks are right, and the references of those blocks end to end.
 -- Assumes nothing.
-use Rattle.std.specs.Prelude.{ℕ, ◌+◌, ◌-◌, ◌*◌, ◌≤◌, ◌<◌, ◌≡◌, Bool, true, not, cond, ◌&&◌, ◌||◌, List, [], ◌++◌, length, take, eqb, leb}
+use Rattle.std.specs.Prelude.{ℕ, ◌+◌, ◌-◌, ◌*◌, ◌≤◌, ◌<◌, ◌≡◌, Bool, true, false, not, Option, MatchOption, cond, ◌&&◌, ◌||◌, List, [], ◌++◌, length, take, eqb, leb}
 use Rattle.model.specs.Below.{all_below}
 use Rattle.model.specs.Word.{word, part, bit}
 use Rattle.model.specs.Class.{blocks, block_words, class_of}
@@ -53,19 +53,20 @@ pub record Adding (i : ℕ) (b refs : List ℕ) : Type 0 where
   pub some : 2 ≤ block_words i
   pub room : length refs + (block_words i - 1) ≤ 4096
 
-pub record Added (i : ℕ) (b refs refs' : List ℕ) (right : Bool) : Type 0 where
-  pub header : right ≡ header_right i b
-  pub few : right ≡ true → length refs' ≤ length refs + (block_words i - 1)
-  pub words : right ≡ true → refs' ≡ refs ++ references_in b
+abbrev pub Added : ℕ → List ℕ → List ℕ → Option (List ℕ) → Type 0
+Added i b refs added = MatchOption added (header_right i b ≡ false) (λ refs'. (header_right i b ≡ true) × (refs' ≡ refs ++ references_in b))
 
 -- ---- what the blocks of a segment below `end` give
 
--- where their headers are right, the row has their references, and perhaps zeros: a test that 0 passes is passed by all words of the row exactly
--- if all references pass it
-pub record GatheredBelow (ws : List ℕ) (s end : ℕ) (refs : List ℕ) (right : Bool) : Type 0 where
-  pub headers : right ≡ all_below end (headed ws s)
-  pub few : right ≡ true → length refs ≤ (block_words (class ws s) - 1) * end
-  pub tests : right ≡ true → (p : ℕ → Bool) → p 0 ≡ true → all_words p refs ≡ all_below end (λ k. all_words p (references_of ws s k))
+-- with right headers, their references, and perhaps zeros: a test that 0 passes is passed by all of them exactly if all references pass it
+pub record Gathered (ws : List ℕ) (s end : ℕ) (refs : List ℕ) : Type 0 where
+  pub headers : all_below end (headed ws s) ≡ true
+  pub few : length refs ≤ (block_words (class ws s) - 1) * end
+  pub tests : (p : ℕ → Bool) → p 0 ≡ true → all_words p refs ≡ all_below end (λ k. all_words p (references_of ws s k))
+
+-- and nothing where a header is wrong
+abbrev pub GatheredBelow : List ℕ → ℕ → ℕ → Option (List ℕ) → Type 0
+GatheredBelow ws s end gathered = MatchOption gathered (all_below end (headed ws s) ≡ false) (Gathered ws s end)
 
 -- segment s, of class i, of an arena of N segments
 pub record Of (ws : List ℕ) (N s i : ℕ) : Type 0 where
@@ -75,20 +76,20 @@ pub record Of (ws : List ℕ) (N s i : ℕ) : Type 0 where
 -- asked for the taken block k, with the references of those before it
 pub record AtBlock (ws : List ℕ) (s k : ℕ) (refs : List ℕ) : Type 0 where
   pub taken : taken_at ws s k ≡ true
-  pub gathered : GatheredBelow ws s k refs true
+  pub gathered : Gathered ws s k refs
 
 -- asked for the 32 blocks of word j, with the references of those before them
 pub record AtWord (ws : List ℕ) (s j w : ℕ) (refs : List ℕ) : Type 0 where
   pub inside : j < 64
   pub bits : (b : ℕ) → b < 32 → bit w b ≡ taken_at ws s (32 * j + b)
-  pub gathered : GatheredBelow ws s (32 * j) refs true
+  pub gathered : Gathered ws s (32 * j) refs
 
 -- asked for them where all are taken, and small
 pub record AtFull (ws : List ℕ) (s i j : ℕ) (refs : List ℕ) : Type 0 where
   pub small : i ≤ 4
   pub inside : 32 * j + 32 ≤ blocks i
   pub taken : (b : ℕ) → b < 32 → taken_at ws s (32 * j + b) ≡ true
-  pub gathered : GatheredBelow ws s (32 * j) refs true
+  pub gathered : Gathered ws s (32 * j) refs
 
 -- asked for so many words from block k on
 pub record From (ws : List ℕ) (N s i k count : ℕ) : Type 0 where

@@ -60,15 +60,20 @@ fn put_columns(words: &[u32], size: usize, class: u32, refs: &mut [u32; 4096], m
     wrong
 }
 
-impl Refs {
-    // Puts the references of all 32, and says whether their headers are right.
-    pub fn put_beside(&mut self, words: &[u32], size: usize, class: u32) -> bool
-        requires { AddingBeside class words.now size self.old }
-        ensures { AddedBeside class words.now size self.old self.new result }
+impl<'a> Refs<'a> {
+    // Puts the references of all 32, if their headers are right.
+    pub fn put_beside(self, words: &[u32], size: usize, class: u32) -> Option<Refs<'a>>
+        requires { AddingBeside class words.now size self }
+        ensures { AddedBeside class words.now size self.entry result }
     {
-        let m = self.count;
-        let wrong = put_columns(words, size, class, &mut self.words, m);
-        self.count = m + 32 * (size - 1);
-        wrong == 0
+        let Refs { words: refs, count } = self;
+        let wrong = put_columns(words, size, class, refs, count);
+        if wrong != 0 {
+            return None;
+        }
+        Some(Refs {
+            words: refs,
+            count: count + 32 * (size - 1),
+        })
     }
 }

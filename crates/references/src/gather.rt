@@ -39,46 +39,46 @@ pub fn header_right(block: &[u32], class: u32) -> bool
     class_of(n) == class && header_r(w) <= n
 }
 
-// Whether the header of a block is right; where it is, its references are put.
-fn add_block(block: &[u32], class: u32, refs: &mut Refs) -> bool
-    requires { Adding class block.now refs.old }
-    ensures { Added class block.now refs.old refs.new result }
+// Puts the references of a block, if its header is right.
+fn add_block<'r>(block: &[u32], class: u32, refs: Refs<'r>) -> Option<Refs<'r>>
+    requires { Adding class block.now refs }
+    ensures { Added class block.now refs.entry result }
 {
     if !header_right(block, class) {
-        return false;
+        return None;
     }
-    refs.put(block, header_r(block[0]) as usize);
-    true
+    Some(refs.put(block, header_r(block[0]) as usize))
 }
 
-impl Member<'_> {
-    pub fn block(&self, k: u32) -> &[u32]
-        requires { k < blocks self.now.class }
-        ensures { result.now ≡ block_of self.now.arena.now self.now.s k }
+// Each gathers some blocks, and gives None where one of their headers is wrong.
+impl<'a> Member<'a> {
+    pub fn block(self, k: u32) -> &'a [u32]
+        requires { k < blocks self.class }
+        ensures { result.now ≡ block_of self.entry.arena.now self.entry.s k }
     {
         block_of(self.arena, self.n, self.s, self.class, BlockIndex(k))
     }
 
     // So many words of the arena, from block k on.
-    fn words_from(&self, k: u32, count: usize) -> &[u32]
-        requires { From self.now.arena.now self.now.n self.now.s self.now.class k count }
-        ensures { result.now ≡ part self.now.arena.now (block_at self.now.n self.now.s self.now.class k) count }
+    fn words_from(self, k: u32, count: usize) -> &'a [u32]
+        requires { From self.arena.now self.n self.s self.class k count }
+        ensures { result.now ≡ part self.entry.arena.now (block_at self.entry.n self.entry.s self.entry.class k) count }
     {
         let from = offset(self.n, self.s, self.class, BlockIndex(k)).0;
         &self.arena[from..from + count]
     }
 
-    fn gather_block(&self, k: u32, refs: &mut Refs) -> bool
-        requires { AtBlock self.now.arena.now self.now.s k refs.old }
-        ensures { GatheredBelow self.now.arena.now self.now.s (k + 1) refs.new result }
+    fn gather_block<'r>(self, k: u32, refs: Refs<'r>) -> Option<Refs<'r>>
+        requires { AtBlock self.arena.now self.s k refs }
+        ensures { GatheredBelow self.entry.arena.now self.entry.s (k + 1) result }
     {
         add_block(self.block(k), self.class, refs)
     }
 
     // The blocks of a word, of which all are taken, of class 3 or 4.
-    fn gather_full(&self, j: u32, refs: &mut Refs) -> bool
-        requires { AtFull self.now.arena.now self.now.s self.now.class j refs.old }
-        ensures { GatheredBelow self.now.arena.now self.now.s (32 * j + 32) refs.new result }
+    fn gather_full<'r>(self, j: u32, refs: Refs<'r>) -> Option<Refs<'r>>
+        requires { AtFull self.arena.now self.s self.class j refs }
+        ensures { GatheredBelow self.entry.arena.now self.entry.s (32 * j + 32) result }
     {
         if self.class == 3 {
             return refs.put_beside(self.words_from(32 * j, 64), 2, self.class);
@@ -87,23 +87,22 @@ impl Member<'_> {
     }
 
     // The blocks of a word's set bits.
-    fn gather_bits(&self, j: u32, w: u32, refs: &mut Refs) -> bool
-        requires { AtWord self.now.arena.now self.now.s j w refs.old }
-        ensures { GatheredBelow self.now.arena.now self.now.s (32 * j + 32) refs.new result }
+    fn gather_bits<'r>(self, j: u32, w: u32, refs: Refs<'r>) -> Option<Refs<'r>>
+        requires { AtWord self.arena.now self.s j w refs }
+        ensures { GatheredBelow self.entry.arena.now self.entry.s (32 * j + 32) result }
     {
+        let mut refs = refs;
         let mut left = w;
         while left != 0 {
-            if !self.gather_block(32 * j + left.trailing_zeros(), refs) {
-                return false;
-            }
+            refs = self.gather_block(32 * j + left.trailing_zeros(), refs)?;
             left &= left - 1;
         }
-        true
+        Some(refs)
     }
 
-    fn gather_word(&self, j: u32, w: u32, refs: &mut Refs) -> bool
-        requires { AtWord self.now.arena.now self.now.s j w refs.old }
-        ensures { GatheredBelow self.now.arena.now self.now.s (32 * j + 32) refs.new result }
+    fn gather_word<'r>(self, j: u32, w: u32, refs: Refs<'r>) -> Option<Refs<'r>>
+        requires { AtWord self.arena.now self.s j w refs }
+        ensures { GatheredBelow self.entry.arena.now self.entry.s (32 * j + 32) result }
     {
         if w == 0xFFFF_FFFF && self.class <= 4 {
             return self.gather_full(j, refs);
@@ -111,18 +110,17 @@ impl Member<'_> {
         self.gather_bits(j, w, refs)
     }
 
-    // Whether all headers are right; where they are, the references of all taken blocks are put.
-    pub fn gather(&self, refs: &mut Refs) -> bool
-        requires small { self.now.class ≤ 7 }
-        requires none { refs.old ≡ [] }
-        ensures { GatheredBelow self.now.arena.now self.now.s (blocks self.now.class) refs.new result }
+    // All blocks.
+    pub fn gather<'r>(self, refs: Refs<'r>) -> Option<Refs<'r>>
+        requires small { self.class ≤ 7 }
+        requires none { refs ≡ [] }
+        ensures { GatheredBelow self.entry.arena.now self.entry.s (blocks self.entry.class) result }
     {
+        let mut refs = refs;
         for j in 0..blocks(self.class).div_ceil(32) {
             let w = self.row[(1 + 64 * self.s + j) as usize];
-            if !self.gather_word(j, w, refs) {
-                return false;
-            }
+            refs = self.gather_word(j, w, refs)?;
         }
-        true
+        Some(refs)
     }
 }

@@ -26,9 +26,9 @@ fn references_right(row: &[u32; 8192], block: &[u32]) -> bool
 
 impl Member<'_> {
     // A block that is not taken may be anything.
-    fn block_right(&self, k: u32) -> bool
-        requires { k < blocks self.now.class }
-        ensures { result ≡ right_at self.now.arena.now self.now.s k }
+    fn block_right(self, k: u32) -> bool
+        requires { k < blocks self.class }
+        ensures { result ≡ right_at self.entry.arena.now self.entry.s k }
     {
         if !is_taken(self.row, 2048 * self.s + k + 1) {
             return true;
@@ -37,23 +37,31 @@ impl Member<'_> {
         header_right(block, self.class) && references_right(self.row, block)
     }
 
-    fn large_right(&self) -> bool
-        ensures { result ≡ segment_right self.now.arena.now self.now.s }
+    fn large_right(self) -> bool
+        ensures { result ≡ segment_right self.entry.arena.now self.entry.s }
     {
         (0..blocks(self.class)).all(|k| self.block_right(k))
     }
 
     // Of small blocks the references are gathered first, and then tested in one row.
-    fn small_right(&self, refs: &mut Refs) -> bool
-        requires { self.now.class ≤ 7 }
-        ensures { result ≡ segment_right self.now.arena.now self.now.s }
+    fn small_right(self, words: &mut [u32; 4096]) -> bool
+        requires { self.class ≤ 7 }
+        ensures { result ≡ segment_right self.entry.arena.now self.entry.s }
     {
-        refs.clear();
-        self.gather(refs) && all_none_or_taken(self.row, refs.words())
+        match self.gather(Refs::new(words)) {
+            Some(refs) => all_none_or_taken(self.row, refs.words()),
+            None => false,
+        }
     }
 }
 
-fn segment_right(arena: &[u32], row: &[u32; 8192], n: u32, s: u32, refs: &mut Refs) -> bool
+fn segment_right(
+    arena: &[u32],
+    row: &[u32; 8192],
+    n: u32,
+    s: u32,
+    words: &mut [u32; 4096],
+) -> bool
     requires { Judging arena.now row.now n s }
     ensures { result ≡ segment_right arena.now s }
 {
@@ -61,9 +69,15 @@ fn segment_right(arena: &[u32], row: &[u32; 8192], n: u32, s: u32, refs: &mut Re
     if class == 0 {
         return true;
     }
-    let member = Member { arena, row, n, s, class };
+    let member = Member {
+        arena,
+        row,
+        n,
+        s,
+        class,
+    };
     if class <= 7 {
-        return member.small_right(refs);
+        return member.small_right(words);
     }
     member.large_right()
 }
@@ -74,10 +88,10 @@ pub fn taken_right(arena: &[u32], row: &[u32; 8192]) -> bool
     requires taken_row { TakenRow arena.now row.now }
     ensures { result ≡ taken_right arena.now }
 {
-    let mut refs = Refs::new();
+    let mut words = [0; 4096];
     let n = segments(arena);
     for s in 0..n {
-        if !segment_right(arena, row, n, s, &mut refs) {
+        if !segment_right(arena, row, n, s, &mut words) {
             return false;
         }
     }

@@ -1,6 +1,7 @@
 // The references that are gathered of a segment, end to end.
 //
-// A segment has less than 4,096 of them: a block has room for its header besides.
+// A segment has less than 4,096 of them: a block has room for its header besides. They are handed on by value, from
+// which each function makes those that it hands back: so their number stays in a register.
 ghost use Rattle.std.specs.Prelude.{◌≡◌, ◌+◌, [], ◌++◌, length, take};
 ghost use Rattle.model.specs.Word.{part};
 ghost use Rattle.references.specs.Gather.{Copying, Putting};
@@ -9,50 +10,46 @@ use std::marker::Model;
 
 // The first `count` words.
 #[derive(Drop)]
-pub struct Refs {
-    pub words: [u32; 4096],
+pub struct Refs<'a> {
+    pub words: &'a mut [u32; 4096],
     pub count: usize,
 }
 
-impl Model for Refs {
-    ghost use Rattle.std.specs.Prelude.{ℕ, List, ◌≤◌, take};
+impl<'a> Model for Refs<'a> {
+    ghost use Rattle.std.specs.Prelude.{◌≡◌, ℕ, ◌≤◌, List, length, take};
 
     ghost Value = { List ℕ };
 
-    ghost view = { λ r. take r.count r.words };
+    ghost view = { λ r. take r.count r.words.now };
 
-    ghost invariant = { λ r. r.count ≤ 4096 };
+    ghost invariant = { λ r. (r.count ≤ 4096) × (length r.words.now ≡ 4096) };
 }
 
-impl Refs {
-    pub fn new() -> Refs
+impl<'a> Refs<'a> {
+    // None yet.
+    pub fn new(words: &'a mut [u32; 4096]) -> Refs<'a>
         ensures { result ≡ [] }
     {
-        Refs {
-            words: [0; 4096],
-            count: 0,
-        }
+        Refs { words, count: 0 }
     }
 
-    pub fn clear(&mut self)
-        ensures { self.new ≡ [] }
+    // Puts a block's r references behind them.
+    pub fn put(self, block: &[u32], r: usize) -> Refs<'a>
+        requires { Putting block.now r (length self) }
+        ensures { result ≡ self.entry ++ part block.now 1 r }
     {
-        self.count = 0;
+        let Refs { words, count } = self;
+        put_references(block, r, words, count);
+        Refs {
+            words,
+            count: count + r,
+        }
     }
 
     pub fn words(&self) -> &[u32]
         ensures { result.now ≡ self.now }
     {
         &self.words[..self.count]
-    }
-
-    // Puts a block's r references behind them.
-    pub fn put(&mut self, block: &[u32], r: usize)
-        requires { Putting block.now r (length self.old) }
-        ensures { self.new ≡ self.old ++ part block.now 1 r }
-    {
-        put_references(block, r, &mut self.words, self.count);
-        self.count += r;
     }
 }
 
@@ -61,7 +58,10 @@ fn copy(block: &[u32], count: usize, words: &mut [u32; 4096], m: usize)
     requires { Copying block.now count m }
     ensures { take (m + count) words.new ≡ take m words.old ++ part block.now 1 count }
 {
-    words[m..m + count].copy_from_slice(&block[1..1 + count]);
+    // copy_from_slice tests whether the two overlap
+    for f in 0..count {
+        words[m + f] = block[1 + f];
+    }
 }
 
 // Puts a block's r references there. Words behind them do no harm, since the next block's go over them, and a

@@ -13,13 +13,13 @@ gather_block-requires c =
     let inv = c.loop-left.invariant in
     record { taken = left_taken c.requires inv c.loop-left-test.true; gathered = inv.gathered }
 
-pub returns-then-not-gather_block : goal.returns-then-not-gather_block
-returns-then-not-gather_block c =
+pub returns-in_err-refs : goal.returns-in_err-refs
+returns-in_err-refs c =
     let small = trailing_lt _ c.loop-left.invariant.small c.loop-left-test.true in
-    gathered_wrong c.if-not-gather_block.ensures (omega (arith, small))
+    rw c.from_residual.ensures (gathered_wrong c.args.self.arena.now c.args.self.s _ _ c.in_err-refs.ensures (omega (arith, small)))
 
 pub loop-left-preserved : goal.loop-left-preserved
-loop-left-preserved c = left_step c.requires c.loop-left.invariant c.loop-left-test.true c.if-not-gather_block.ensures
+loop-left-preserved c = left_step c.requires c.loop-left.invariant c.loop-left-test.true c.in_ok-refs.ensures
 
 pub returns : goal.returns
 returns c = left_none c.loop-left.invariant c.loop-left-test.false

@@ -10,13 +10,13 @@ use Rattle.references.proofs.gather.Member.gather_block.Goals as goal
 
 pub block-requires : goal.block-requires
 block-requires c =
-    let m = c.args.self.now in
+    let m = c.args.self in
     rw m.of.member.class (taken_inside m.arena.now m.s c.args.k c.requires.taken)
 
 pub add_block-requires : goal.add_block-requires
 add_block-requires c =
     let p = c.requires in
-    let m = c.args.self.now in
+    let m = c.args.self in
     let inside = taken_inside m.arena.now m.s c.args.k p.taken in
     let same = ap block_words m.of.member.class in
     record {
@@ -28,4 +28,6 @@ add_block-requires c =
 pub returns : goal.returns
 returns c =
     let p = c.requires in
-    gathered_step p.gathered p.taken c.args.self.now.of.member.class c.block.ensures c.add_block.ensures
+    let m = c.args.self in
+    let inside = taken_inside m.arena.now m.s c.args.k p.taken in
+    gathered_step c.add_block.result p.gathered p.taken inside (handed_long m.of c.args.k c.block.ensures inside) m.of.member.class c.block.ensures c.add_block.ensures

@@ -13,7 +13,7 @@ use Rattle.references.proofs.gather.Member.gather_word.Goals as goal
 
 pub gather_full-requires : goal.gather_full-requires
 gather_full-requires c =
-    let m = c.args.self.now in
+    let m = c.args.self in
     let p = c.requires in
     let all : (b : ℕ) → b < 32 → taken_at m.arena.now m.s (32 * c.args.j + b) ≡ true =
     λ b l. sym (p.bits b l) ∙ ap (λ (w : ℕ). bit w b) c.if-w-eq4294967295.true ∙ bit_ones b l in

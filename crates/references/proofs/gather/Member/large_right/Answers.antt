@@ -10,7 +10,7 @@ use Rattle.references.proofs.gather.Member.large_right.Goals as goal
 
 pub returns : goal.returns
 returns c =
-    let m = c.args.self.now in
+    let m = c.args.self in
     let p = right_at m.arena.now m.s in
     let n = c.blocks-2.result in
     let all = all_from_yields_List p _ _ c.all.result c.all.ensures.ran (YieldsList-from_range 0 n n refl (omega arith)) (λ x b q k. search (rules, tests)) in
