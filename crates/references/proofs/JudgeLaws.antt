@@ -6,13 +6,11 @@ use mathlib.Core.Bool.{Bool, true, false, not, ◌&&◌, ◌||◌, and_assoc}
 use mathlib.Core.List.{List}
 use native.Mathlib.Omega.{arith}
 use lib.Dec.{eqb, leb}
-use lib.ListN.{take}
 use borrow.Author.Tests.{ne_eqb}
 use Rattle.std.specs.List.{list_all, range_with_len}
 use Rattle.model.specs.Below.{all_below}
 use Rattle.model.specs.Word.{part}
-use Rattle.model.specs.Class.{blocks, block_words, class_of}
-use Rattle.model.specs.Layout.{block_at}
+use Rattle.model.specs.Class.{blocks, class_of}
 use Rattle.model.specs.View.{segments, class, block_of, n_in, r_in, reference_in}
 use Rattle.model.specs.Standing.{in_pool, taken_at, none_or_taken}
 use Rattle.model.specs.Sound.{block_right, taken_right}
@@ -21,7 +19,7 @@ use Rattle.words.proofs.ClassLaws.{bounds_class, blocks_most}
 use Rattle.taken.specs.Row.{all_words, TakenRow, row_taken, row_none_or_taken}
 use Rattle.references.specs.Gather.{references_in, header_right, headed, references_of, right_at, segment_right, Gathered, Of}
 use Rattle.taken.proofs.RowLaws.{row_none_or_taken_is, row_taken_is, is_taken_at}
-use Rattle.references.proofs.GatherLaws.{all_words_ext, all_words_part, header_room, headed_free, headed_taken, references_free, references_taken, block_long, block_handed, taken_inside}
+use Rattle.references.proofs.GatherLaws.{all_words_ext, all_words_part, header_room, headed_free, headed_taken, references_free, references_taken, block_long, taken_inside}
 
 -- ---- one block
 

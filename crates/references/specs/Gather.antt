@@ -1,8 +1,8 @@
 -- What the judge gathers of a segment: whether the headers of its taken blocks are right, and the references of those blocks end to end.
 -- Assumes nothing.
-use Rattle.std.specs.Prelude.{ℕ, ◌+◌, ◌-◌, ◌*◌, ◌≤◌, ◌<◌, ◌≡◌, Bool, true, false, not, Option, MatchOption, cond, ◌&&◌, ◌||◌, List, [], ◌++◌, length, take, eqb, leb}
+use Rattle.std.specs.Prelude.{ℕ, ◌+◌, ◌-◌, ◌*◌, ◌≤◌, ◌<◌, ◌≡◌, Bool, true, false, not, Option, MatchOption, cond, ◌&&◌, ◌||◌, List, [], ◌++◌, length, eqb, leb}
 use Rattle.model.specs.Below.{all_below}
-use Rattle.model.specs.Word.{word, part, bit}
+use Rattle.model.specs.Word.{part, bit}
 use Rattle.model.specs.Class.{blocks, block_words, class_of}
 use Rattle.model.specs.Layout.{block_at}
 use Rattle.model.specs.View.{segments, class, block_of, n_in, r_in}

@@ -25,7 +25,11 @@ fn reference_or_none(block: &[u32], f: usize) -> u32
     ensures { result ≡ reference_or_none block.now f }
 {
     let v = block[1 + f];
-    if f < header_r(block[0]) as usize { v } else { 0 }
+    if f < header_r(block[0]) as usize {
+        v
+    } else {
+        0
+    }
 }
 
 // Block k of 32 that stand side by side.

@@ -55,13 +55,7 @@ impl Member<'_> {
     }
 }
 
-fn segment_right(
-    arena: &[u32],
-    row: &[u32; 8192],
-    n: u32,
-    s: u32,
-    words: &mut [u32; 4096],
-) -> bool
+fn segment_right(arena: &[u32], row: &[u32; 8192], n: u32, s: u32, words: &mut [u32; 4096]) -> bool
     requires { Judging arena.now row.now n s }
     ensures { result ≡ segment_right arena.now s }
 {

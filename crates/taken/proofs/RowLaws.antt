@@ -11,7 +11,7 @@ use native.Mathlib.Omega.{arith}
 use Rattle.std.proofs.Common.{sum_by}
 use Rattle.std.proofs.lemmas.List.Sums.{sum_by_more}
 use lib.Dec.{eqb, ltb}
-use lib.ListN.{length, get_or, set, replicate, take, drop, length-drop, length-set, length-replicate, get_or-replicate, get_or-eq_default, length-append, get_or-append}
+use lib.ListN.{length, set, replicate, take, drop, length-drop, length-set, length-replicate, get_or-replicate, get_or-eq_default, length-append, get_or-append}
 use native.Mathlib.Decide.{dec_lt}
 use lib.Seq.{get_or-set_same, get_or-set_other, get_or-drop, get_or-append-add}
 use lib.Bits.{bit_and, bit_or, or_lt, and_lt, or_add_and, and_le_l, and_le_r}

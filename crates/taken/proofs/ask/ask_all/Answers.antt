@@ -15,6 +15,6 @@ loop-four-preserved c =
     let tail = c.in-Some.tail.now in
     let seen = seen_right c.loop-four.seen.all c.loop-four.seen.over in
     ap (λ (t : Bool). t && all_words p tail) c.words-seen.ensures ∙ and_assoc seen (all_words p four) (all_words p tail)
-    ∙ ap (λ (t : Bool). seen && t) (sym (all_words_append p four tail)) 
+    ∙ ap (λ (t : Bool). seen && t) (sym (all_words_append p four tail))
     ∙ ap (λ (xs : List ℕ). seen && all_words p xs) (ap₂ ◌++◌ c.in-Some.ensures.cases.0 c.in-Some.ensures.cases.1 ∙ take-append-drop 4 c.loop-four.rest.now)
     ∙ c.loop-four.invariant

@@ -1,6 +1,6 @@
 -- `taken::ask::taken_count` meets its contract: the ones of its words are the bits of the row, and fewer than a word can count.
 -- Assumes nothing.
-use Rattle.std.proofs.Common.{rules, arith, ◌≡◌, ℕ, ◌+◌, ◌-◌, ◌*◌, ◌^◌, ◌<◌, List, slice_range, sum_by, ap, ◌∙◌}
+use Rattle.std.proofs.Common.{rules, arith, ◌≡◌, ℕ, ◌+◌, ◌-◌, ◌*◌, ◌^◌, ◌<◌, slice_range, sum_by, ap, ◌∙◌}
 use Rattle.model.specs.Below.{count_below}
 use Rattle.model.specs.Word.{bit}
 use Rattle.laws.proofs.Below.{count_below_le}
@@ -21,7 +21,7 @@ all_ones c =
 pub sum-requires-clause-fits : goal.sum-requires-clause-fits
 sum-requires-clause-fits c =
     let few : sum_by (λ w. count_below 32 (bit w)) (slice_range c.args.row.now 1 (1 + 64 * c.args.n)) < 2 ^ 32 =
-        omega (arith, all_ones (goal.at.sum-requires-clause-fits c).Start, count_below_le (2048 * c.args.n) (λ x. row_bit c.args.row.now (x + 1))) in
+    omega (arith, all_ones (goal.at.sum-requires-clause-fits c).Start, count_below_le (2048 * c.args.n) (λ x. row_bit c.args.row.now (x + 1))) in
     search rules
 
 pub returns : goal.returns

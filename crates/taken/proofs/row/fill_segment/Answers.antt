@@ -1,6 +1,6 @@
 -- `taken::row::fill_segment` meets its contract: a segment in the pool has no taken block, and one of a class those of its limit and its bits.
 -- Assumes nothing.
-use Prim.Native.Nat.{ℕ, ◌+◌, ◌*◌, ◌≤◌}
+use Prim.Native.Nat.{ℕ, ◌+◌, ◌≤◌}
 use native.Mathlib.Omega.{arith}
 use mathlib.Core.Path.{◌≡◌, refl, ap, ap₂, ◌∙◌, sym}
 use mathlib.Core.Bool.{true, false}

@@ -1,5 +1,4 @@
 -- `references::gather::Member::block_right` meets its contract. Assumes nothing.
-use Prim.Native.Nat.{◌<◌}
 use native.Mathlib.Omega.{arith}
 use mathlib.Core.Path.{◌≡◌, sym, ◌∙◌}
 use mathlib.Core.Bool.{true}

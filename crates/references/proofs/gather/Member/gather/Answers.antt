@@ -1,8 +1,8 @@
 -- `references::gather::Member::gather` meets its contract.
 -- Assumes nothing.
-use Prim.Native.Nat.{ℕ, ◌*◌, ◌≤◌}
+use Prim.Native.Nat.{◌≤◌}
 use native.Mathlib.Omega.{arith}
-use mathlib.Core.Path.{◌≡◌, refl}
+use mathlib.Core.Path.{◌≡◌}
 use Rattle.model.specs.Class.{blocks, words_for}
 use Rattle.words.proofs.ClassLaws.{bounds_class, blocks_most}
 use Rattle.references.proofs.GatherLaws.{row_word_bits, gathered_none, gathered_wrong, whole_words, gathered_end}

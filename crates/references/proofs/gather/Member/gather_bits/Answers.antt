@@ -2,7 +2,7 @@
 -- Assumes nothing.
 use native.Mathlib.Omega.{arith}
 use borrow.Author.Rules.{rules}
-use Rattle.references.proofs.GatherLaws.{left_all, left_less, left_step, left_taken, left_none, trailing_lt, gathered_wrong}
+use Rattle.references.proofs.GatherLaws.{left_all, left_step, left_taken, left_none, trailing_lt, gathered_wrong}
 use Rattle.references.proofs.gather.Member.gather_bits.Goals as goal
 
 pub loop-left-init : goal.loop-left-init

@@ -1,14 +1,13 @@
 -- `references::gather::Member::gather_full` meets its contract: blocks of class 3 have 2 words, those of class 4 have 4.
 -- Assumes nothing.
-use Prim.Native.Nat.{◌+◌, ◌*◌, ◌≤◌}
+use Prim.Native.Nat.{◌*◌}
 use native.Mathlib.Omega.{arith}
 use mathlib.Core.Path.{◌≡◌, ap, ◌∙◌, sym}
 use lib.ListN.{length}
 use Rattle.model.specs.Class.{block_words}
 use Rattle.model.specs.Layout.{block_at}
 use Rattle.laws.proofs.Splice.{length_part}
-use Rattle.words.proofs.ClassLaws.{blocks_most}
-use Rattle.references.proofs.BesideLaws.{full_class, full_room, full_within, full_gathered}
+use Rattle.references.proofs.BesideLaws.{full_room, full_within, full_gathered}
 use Rattle.references.proofs.gather.Member.gather_full.Goals as goal
 use Rattle.references.proofs.gather.Member.gather_full.Goals.{Else-self-eq3, Then-self-eq3}
 

@@ -1,6 +1,5 @@
 -- `references::gather::Member::large_right` meets its contract. Assumes nothing.
-use Rattle.std.proofs.Common.{rules, tests, arith, ◌≡◌, refl, sym, ap, ◌∙◌, ℕ}
-use Rattle.std.specs.List.{list_all, range_with_len}
+use Rattle.std.proofs.Common.{rules, tests, arith, refl, ap, ◌∙◌, ℕ}
 use Rattle.std.proofs.lemmas.Iterator.{YieldsList-from_range}
 use Rattle.std.proofs.lemmas.Iterator.Search.{all_from_yields_List}
 use Rattle.model.specs.Below.{all_below}
