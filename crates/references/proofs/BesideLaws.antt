@@ -3,15 +3,15 @@
 use Prim.Native.Nat.{ℕ, zero, suc, ◌+◌, ◌-◌, ◌*◌, ◌≤◌, ◌<◌}
 use mathlib.Core.Path.{◌≡◌, refl, sym, ap, ap₂, ◌∙◌}
 use mathlib.Core.Bool.{Bool, true, false, not, ◌&&◌, cond, and-true, and-false}
-use mathlib.Core.List.{List}
+use mathlib.Core.List.{List, ◌++◌}
 use native.Mathlib.Nat.{mul-add, mul-suc, add-zero, mul-le-mul_left, mul-le-mul_right}
 use native.Mathlib.Omega.{arith}
 use Rattle.std.proofs.Common.{Option, Some, None}
 use lib.Dec.{eqb}
-use lib.ListN.{length, take, set}
+use lib.ListN.{length, take, set, length-append}
 use lib.Seq.{get_or-set_same, get_or-set_other, length-take-le}
 use borrow.Author.Count.{below_more}
-use borrow.Author.Tests.{lt-ltb, le-ltb, eq-eqb, ne_eqb}
+use borrow.Author.Tests.{lt-ltb, le-ltb, ne_eqb}
 use Rattle.model.specs.Below.{one_if, all_below}
 use Rattle.model.specs.Word.{word, part}
 use Rattle.model.specs.Class.{is_class, block_words}
@@ -24,6 +24,7 @@ use Rattle.words.proofs.HandleLaws.{block_in_arena}
 use Rattle.taken.specs.Row.{all_words}
 use Rattle.references.specs.Gather.{header_right, references_in, headed, references_of, GatheredBelow, Of, AtFull}
 use Rattle.references.specs.Beside.{Beside, beside, reference_or_none, FieldsPut, InColumns, PutBeside, AddedBeside}
+use Rattle.taken.proofs.RowLaws.{all_words_append}
 use Rattle.references.proofs.GatherLaws.{all_words_take, all_words_part, header_room, headed_taken, references_taken, block_handed}
 
 -- ---- tests, field by field and block by block
@@ -49,17 +50,17 @@ by_rows (suc n) q =
 
 -- ---- putting columns
 
-pub fields_none : (b : List ℕ) (k : ℕ) (refs : List ℕ) (m : ℕ) → FieldsPut b k refs m 0 refs
-fields_none b k refs m = record { others = λ o _. refl; fields = λ f l. absurd (omega arith) }
+pub fields_none : (b : List ℕ) (k : ℕ) (rest : List ℕ) → FieldsPut b k 0 rest rest
+fields_none b k rest = record { others = λ o _. refl; fields = λ f l. absurd (omega arith) }
 
-pub fields_step : {b : List ℕ} {k : ℕ} {refs refs' : List ℕ} {m n : ℕ} (v : ℕ) → FieldsPut b k refs m n refs' → v ≡ reference_or_none b n → m + 32 * n + k < length refs'
-    → FieldsPut b k refs m (n + 1) (set refs' (m + 32 * n + k) v)
-fields_step {b} {k} {refs} {refs'} {m} {n} v h e l = record {
+pub fields_step : {b : List ℕ} {k n : ℕ} {rest rest' : List ℕ} (v : ℕ) → FieldsPut b k n rest rest' → v ≡ reference_or_none b n → 32 * n + k < length rest'
+    → FieldsPut b k (n + 1) rest (set rest' (32 * n + k) v)
+fields_step {b} {k} {n} {rest} {rest'} v h e l = record {
   others = λ o apart.
-      get_or-set_other refs' (m + 32 * n + k) o v 0 (apart n (omega arith)) ∙ h.others o (λ f u. apart f (omega arith));
-  fields = below_more (λ (f : ℕ). word (set refs' (m + 32 * n + k) v) (m + 32 * f + k) ≡ reference_or_none b f) n
-      (λ f u. get_or-set_other refs' (m + 32 * n + k) (m + 32 * f + k) v 0 (λ q. omega arith) ∙ h.fields f u)
-      (get_or-set_same refs' (m + 32 * n + k) v 0 l ∙ e);
+      get_or-set_other rest' (32 * n + k) o v 0 (apart n (omega arith)) ∙ h.others o (λ f u. apart f (omega arith));
+  fields = below_more (λ (f : ℕ). word (set rest' (32 * n + k) v) (32 * f + k) ≡ reference_or_none b f) n
+      (λ f u. get_or-set_other rest' (32 * n + k) (32 * f + k) v 0 (λ q. omega arith) ∙ h.fields f u)
+      (get_or-set_same rest' (32 * n + k) v 0 l ∙ e);
 }
 
 -- ---- one block: its references, and zeros
@@ -103,53 +104,50 @@ module _ {words : List ℕ} {size : ℕ} (b : Beside words size) where
       go true = ap (λ (x : ℕ). eqb x 0) (add-zero wrong) ∙ sym (and-true (eqb wrong 0))
       go false = ne_eqb (wrong + 1) 0 (λ z. omega arith) ∙ sym (and-false (eqb wrong 0))
 
-  pub columns_none : (i : ℕ) (refs : List ℕ) (m : ℕ) → InColumns i words size refs m 0 refs 0
+  pub columns_none : (i : ℕ) (rest : List ℕ) → InColumns i words size 0 rest 0
   unfolding all_below
-  columns_none i refs m = record { before = λ o _. refl; fields = λ f k l u. absurd (omega arith); headers = refl }
+  columns_none i rest = record { fields = λ f k l u. absurd (omega arith); headers = refl }
 
-  pub columns_step : {i : ℕ} {block refs refs' refs'' : List ℕ} {m n wrong v : ℕ} → InColumns i words size refs m n refs' wrong → block ≡ beside words size n
-      → FieldsPut block n refs' m (size - 1) refs'' → n < 32 → v ≡ one_if (not (header_right i block))
-      → InColumns i words size refs m (n + 1) refs'' (wrong + v)
-  columns_step {i} {block} {refs} {refs'} {refs''} {m} {n} {wrong} {v} h own g l e = record {
-    before = λ o u. g.others o (λ f q z. omega arith) ∙ h.before o u;
+  pub columns_step : {i : ℕ} {block rest rest' : List ℕ} {n wrong v : ℕ} → InColumns i words size n rest wrong → block ≡ beside words size n
+      → FieldsPut block n (size - 1) rest rest' → n < 32 → v ≡ one_if (not (header_right i block)) → InColumns i words size (n + 1) rest' (wrong + v)
+  columns_step {i} {block} {rest} {rest'} {n} {wrong} {v} h own g l e = record {
     fields = λ f k u.
-        below_more (λ (k : ℕ). word refs'' (m + 32 * f + k) ≡ reference_or_none (beside words size k) f) n
-        (λ k q. g.others (m + 32 * f + k) (λ f' _ z. omega arith) ∙ h.fields f k u q)
+        below_more (λ (k : ℕ). word rest' (32 * f + k) ≡ reference_or_none (beside words size k) f) n
+        (λ k q. g.others (32 * f + k) (λ f' _ z. omega arith) ∙ h.fields f k u q)
         (g.fields f (omega arith) ∙ ap (λ (x : List ℕ). reference_or_none x f) own) k;
     headers = wrong_step i wrong n v h.headers (e ∙ ap (λ (x : List ℕ). one_if (not (header_right i x))) own);
   }
 
-  pub added_beside : {row row' : List ℕ} {m i wrong : ℕ} → block_words i ≡ size → length row ≡ 4096 → length row' ≡ 4096 → m + 32 * (size - 1) ≤ 4096
-      → InColumns i words size row m 32 row' wrong → wrong ≡ 0 → PutBeside i words size (take m row) (take (m + 32 * (size - 1)) row')
-  added_beside {row} {row'} {m} {i} {wrong} own long long' room c right = record {
-    headers = headers;
-    counted = length-take-le (m + 32 * n) row' (omega arith) ∙ ap (λ (x : ℕ). x + 32 * n) (sym (length-take-le m row (omega arith)));
-    tests = λ p none.
-        all_words_take p (m + 32 * n) row' (omega arith)
-        ∙ all_below_add m (32 * n) (λ o. p (word row' o))
-        ∙ ap₂ ◌&&◌
-        (all_below_ext m (λ o. p (word row' o)) (λ o. p (word row o)) (λ o l. ap p (c.before o l)) ∙ sym (all_words_take p m row (omega arith)))
-        (by_rows n (λ o. p (word row' (m + o)))
-        ∙ all_below_ext n (λ f. all_below 32 (λ k. p (word row' (m + (32 * f + k))))) (λ f. all_below 32 (λ k. p (reference_or_none (beside words size k) f)))
-        (λ f l. all_below_ext 32 (λ k. p (word row' (m + (32 * f + k)))) (λ k. p (reference_or_none (beside words size k) f)) (λ k u. ap p (ap (word row') (omega arith) ∙ c.fields f k (omega arith) u)))
-        ∙ exchanged n 32 (λ f k. p (reference_or_none (beside words size k) f))
-        ∙ all_below_ext 32 (λ k. all_below n (λ f. p (reference_or_none (beside words size k) f))) (λ k. all_words p (references_in (beside words size k)))
-        (λ k u.
-        ap (λ (z : ℕ). all_below (z - 1) (λ f. p (reference_or_none (beside words size k) f))) (sym (beside_long k u))
-        ∙ one_block (beside words size k)
-        (omega (arith, own, beside_long k u, header_room i (beside words size k) (all_below_at 32 (λ k. header_right i (beside words size k)) headers k u)))
-        p none));
-  }
+  pub added_beside : (refs rest : List ℕ) (i wrong : ℕ) → block_words i ≡ size → 32 * (size - 1) ≤ length rest → InColumns i words size 32 rest wrong
+      → AddedBeside i words size refs (cond (eqb wrong 0) (Some (refs ++ take (32 * (size - 1)) rest)) None)
+  added_beside refs rest i wrong own room c = go (eqb wrong 0) c.headers
     where
       n : ℕ
       n = size - 1
 
-      headers : all_below 32 (λ k. header_right i (beside words size k)) ≡ true
-      headers = sym c.headers ∙ eq-eqb wrong 0 right
+      right : ℕ → Bool
+      right k = header_right i (beside words size k)
 
-  pub wrong_beside : {row row' : List ℕ} {m i wrong : ℕ} → InColumns i words size row m 32 row' wrong → (wrong ≡ 0 → ⊥)
-      → all_below 32 (λ k. header_right i (beside words size k)) ≡ false
-  wrong_beside {wrong = wrong} c some = sym c.headers ∙ ne_eqb wrong 0 some
+      go : (t : Bool) → t ≡ all_below 32 right → AddedBeside i words size refs (cond t (Some (refs ++ take (32 * n) rest)) None)
+      go false e = sym e
+      go true e = record {
+        headers = sym e;
+        counted = length-append refs (take (32 * n) rest) ∙ ap (λ (x : ℕ). length refs + x) (length-take-le (32 * n) rest room);
+        tests = λ p none.
+            all_words_append p refs (take (32 * n) rest)
+            ∙ ap (λ (t : Bool). all_words p refs && t)
+            (all_words_take p (32 * n) rest room
+            ∙ by_rows n (λ o. p (word rest o))
+            ∙ all_below_ext n (λ f. all_below 32 (λ k. p (word rest (32 * f + k)))) (λ f. all_below 32 (λ k. p (reference_or_none (beside words size k) f)))
+            (λ f l. all_below_ext 32 (λ k. p (word rest (32 * f + k))) (λ k. p (reference_or_none (beside words size k) f)) (λ k u. ap p (c.fields f k (omega arith) u)))
+            ∙ exchanged n 32 (λ f k. p (reference_or_none (beside words size k) f))
+            ∙ all_below_ext 32 (λ k. all_below n (λ f. p (reference_or_none (beside words size k) f))) (λ k. all_words p (references_in (beside words size k)))
+            (λ k u.
+            ap (λ (z : ℕ). all_below (z - 1) (λ f. p (reference_or_none (beside words size k) f))) (sym (beside_long k u))
+            ∙ one_block (beside words size k)
+            (omega (arith, own, beside_long k u, header_room i (beside words size k) (all_below_at 32 right (sym e) k u)))
+            p none));
+      }
 
 -- ---- 32 blocks of a segment
 

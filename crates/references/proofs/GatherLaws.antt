@@ -11,8 +11,8 @@ use Rattle.std.proofs.Common.{Option, Some, None}
 use lib.Dec.{eqb, leb, ltb}
 use lib.Bits.{bit_and, and_le_r}
 use lib.Count.{count_trailing_zeros, trailing_le, trailing_of_zero}
-use lib.ListN.{length, take, drop, set, length-append, length-drop}
-use lib.Seq.{length-take-le, get_or-take, take-take, take-append-add, take-suc, take-suc-set, get_or-drop}
+use lib.ListN.{length, take, drop, set, length-append, length-take, length-drop}
+use lib.Seq.{length-take-le, get_or-take, take-take, take-append-le, take-append-add, take-suc, take-suc-set, get_or-drop}
 use borrow.Author.Tests.{le-ltb, ltb-true, ltb-false, eqb-true, eqb-false, ne_eqb, leb-true}
 use Rattle.model.specs.Below.{all_below}
 use Rattle.model.specs.Word.{word, part, bit}
@@ -50,21 +50,27 @@ all_words_part p xs o n l =
 pub first_words : (words : List ℕ) {refs : List ℕ} {n : ℕ} → (n ≤ 4096) × (length words ≡ 4096) → take n words ≡ refs → n ≡ length refs
 first_words words {refs} {n} (l, e) same = sym (length-take-le n words (omega arith)) ∙ ap length same
 
+-- there is room for as many words as are missing
+pub words_behind : (words : List ℕ) (n : ℕ) → (n ≤ 4096) × (length words ≡ 4096) → length (take (4096 - n) (drop n words)) ≡ 4096 - n
+words_behind words n (l, e) = simp (length-take, length-drop) (omega arith)
+
+-- and m of those that are put behind them
+pub longer_words : (words rest post : List ℕ) {refs : List ℕ} {n : ℕ} (m : ℕ) → (n ≤ 4096) × (length words ≡ 4096) → take n words ≡ refs → m ≤ length rest
+    → take (n + m) (take n words ++ (rest ++ post)) ≡ refs ++ take m rest
+longer_words words rest post {refs} {n} m (l, e) same u =
+    ap (λ (k : ℕ). take (k + m) (take n words ++ (rest ++ post))) (sym (length-take-le n words (omega arith)))
+    ∙ take-append-add (take n words) (rest ++ post) m ∙ ap₂ ◌++◌ same (take-append-le m rest post u)
+
 -- ---- copying the words of a block
 
 -- one word more
-pub copied_step : (b refs refs' : List ℕ) (f m : ℕ) → take (m + f) refs' ≡ take m refs ++ part b 1 f → f + 1 < length b → m + f < length refs'
-    → take (m + (f + 1)) (set refs' (m + f) (word b (1 + f))) ≡ take m refs ++ part b 1 (f + 1)
-copied_step b refs refs' f m c l u =
-    ap (λ (n : ℕ). take n (set refs' (m + f) v)) next ∙ take-suc-set refs' (m + f) v u
-    ∙ ap (λ (xs : List ℕ). xs ++ (v ∷ [])) c ∙ append_assoc (take m refs) (part b 1 f) (v ∷ [])
-    ∙ ap (λ (xs : List ℕ). take m refs ++ xs) (sym longer)
+pub copied_step : (b rest : List ℕ) (f : ℕ) → take f rest ≡ part b 1 f → f + 1 < length b → f < length rest
+    → take (f + 1) (set rest f (word b (1 + f))) ≡ part b 1 (f + 1)
+copied_step b rest f c l u =
+    ap (λ (n : ℕ). take n (set rest f v)) (add-one f) ∙ take-suc-set rest f v u ∙ ap (λ (xs : List ℕ). xs ++ (v ∷ [])) c ∙ sym longer
   where
     v : ℕ
     v = word b (1 + f)
-
-    next : m + (f + 1) ≡ suc (m + f)
-    next = omega arith
 
     longer : part b 1 (f + 1) ≡ part b 1 f ++ (v ∷ [])
     longer =
@@ -72,12 +78,8 @@ copied_step b refs refs' f m c l u =
         ∙ ap (λ (x : ℕ). part b 1 f ++ (x ∷ [])) (get_or-drop 1 b f 0)
 
 -- fewer of them than were copied
-pub copied_less : (b refs refs' : List ℕ) (w m r : ℕ) → take (m + w) refs' ≡ take m refs ++ part b 1 w → r ≤ w → m ≤ length refs
-    → take (m + r) refs' ≡ take m refs ++ part b 1 r
-copied_less b refs refs' w m r c l u =
-    sym (take-take (m + r) (m + w) refs' (omega arith)) ∙ ap (take (m + r)) c
-    ∙ ap (λ (n : ℕ). take (n + r) (take m refs ++ part b 1 w)) (sym (length-take-le m refs u))
-    ∙ take-append-add (take m refs) (part b 1 w) r ∙ ap (λ (xs : List ℕ). take m refs ++ xs) (take-take r w (drop 1 b) l)
+pub copied_less : (b rest : List ℕ) (w r : ℕ) → take w rest ≡ part b 1 w → r ≤ w → take r rest ≡ part b 1 r
+copied_less b rest w r c l = sym (take-take r w rest l) ∙ ap (take r) c ∙ take-take r w (drop 1 b) l
 
 -- ---- headers
 

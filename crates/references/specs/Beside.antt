@@ -25,28 +25,27 @@ reference_or_none b f = cond (ltb f (r_in b)) (reference_in b f) 0
 -- ---- putting the references of one block, and of all
 
 -- block b at place k
-pub record Fields (b : List ℕ) (size k m : ℕ) : Type 0 where
+pub record Fields (b : List ℕ) (size k room : ℕ) : Type 0 where
   pub some : 2 ≤ size
   pub few : size ≤ 4
   pub own : length b ≡ size
   pub block : k < 32
-  pub room : m + 32 * (size - 1) ≤ 4096
+  pub enough : 32 * (size - 1) ≤ room
 
 -- its first n references are put, and no other word is changed
-pub record FieldsPut (b : List ℕ) (k : ℕ) (refs : List ℕ) (m n : ℕ) (refs' : List ℕ) : Type 0 where
-  pub others : (o : ℕ) → ((f : ℕ) → f < n → o ≢ m + 32 * f + k) → word refs' o ≡ word refs o
-  pub fields : (f : ℕ) → f < n → word refs' (m + 32 * f + k) ≡ reference_or_none b f
+pub record FieldsPut (b : List ℕ) (k n : ℕ) (rest rest' : List ℕ) : Type 0 where
+  pub others : (o : ℕ) → ((f : ℕ) → f < n → o ≢ 32 * f + k) → word rest' o ≡ word rest o
+  pub fields : (f : ℕ) → f < n → word rest' (32 * f + k) ≡ reference_or_none b f
 
--- those of the first n blocks are, and `wrong` of their headers are not right
-pub record InColumns (i : ℕ) (words : List ℕ) (size : ℕ) (refs : List ℕ) (m n : ℕ) (refs' : List ℕ) (wrong : ℕ) : Type 0 where
-  pub before : (o : ℕ) → o < m → word refs' o ≡ word refs o
-  pub fields : (f k : ℕ) → f + 1 < size → k < n → word refs' (m + 32 * f + k) ≡ reference_or_none (beside words size k) f
-  pub headers : eqb wrong 0 ≡ all_below n (λ k. header_right i (beside words size k))
-
--- asked to put them from word m of 4,096 on
-pub record Columns (words : List ℕ) (size m : ℕ) : Type 0 where
+-- asked to put them
+pub record Columns (words : List ℕ) (size room : ℕ) : Type 0 where
   pub beside : Beside words size
-  pub room : m + 32 * (size - 1) ≤ 4096
+  pub enough : 32 * (size - 1) ≤ room
+
+-- those of the first n blocks are put, and `wrong` of their headers are not right
+pub record InColumns (i : ℕ) (words : List ℕ) (size n : ℕ) (rest : List ℕ) (wrong : ℕ) : Type 0 where
+  pub fields : (f k : ℕ) → f + 1 < size → k < n → word rest (32 * f + k) ≡ reference_or_none (beside words size k) f
+  pub headers : eqb wrong 0 ≡ all_below n (λ k. header_right i (beside words size k))
 
 -- asked for 32 blocks of class i, and what they add to the references that are gathered already
 pub record AddingBeside (i : ℕ) (words : List ℕ) (size : ℕ) (refs : List ℕ) : Type 0 where

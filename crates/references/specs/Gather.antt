@@ -36,16 +36,11 @@ segment_right ws s = in_pool ws s || all_below (blocks (class ws s)) (right_at w
 
 -- ---- what one block adds to the references that are gathered already
 
--- asked to copy the r words behind a block's header to the place m of 4,096 words
-pub record Copying (b : List ℕ) (r m : ℕ) : Type 0 where
-  pub inside : r < length b
-  pub room : m + r ≤ 4096
-
--- the same of a block's r references, with room for all its words but the header
-pub record Putting (b : List ℕ) (r m : ℕ) : Type 0 where
+-- asked for a block's r references: there is room for all its words but the header
+pub record Putting (b : List ℕ) (r room : ℕ) : Type 0 where
   pub some : 2 ≤ length b
   pub inside : r < length b
-  pub room : m + (length b - 1) ≤ 4096
+  pub enough : length b - 1 ≤ room
 
 -- asked for a block whose header is not tested yet, and what that leaves
 pub record Adding (i : ℕ) (b refs : List ℕ) : Type 0 where

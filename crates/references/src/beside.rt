@@ -40,25 +40,25 @@ fn block_beside(words: &[u32], size: usize, k: usize) -> &[u32]
     &words[size * k..size * k + size]
 }
 
-// Puts the references of block k of 32, each at place k of its field's 32 words, from word m on.
-fn put_fields(block: &[u32], size: usize, k: usize, refs: &mut [u32; 4096], m: usize)
-    requires { Fields block.now size k m }
-    ensures { FieldsPut block.now k refs.old m (size - 1) refs.new }
+// Puts the references of block k of 32, each at place k of its field's 32 words.
+fn put_fields(block: &[u32], size: usize, k: usize, rest: &mut [u32])
+    requires { Fields block.now size k (length rest.old) }
+    ensures { FieldsPut block.now k (size - 1) rest.old rest.new }
 {
     for f in 0..size - 1 {
-        refs[m + 32 * f + k] = reference_or_none(block, f);
+        rest[32 * f + k] = reference_or_none(block, f);
     }
 }
 
 // The same of all of them. Gives how many headers are wrong.
-fn put_columns(words: &[u32], size: usize, class: u32, refs: &mut [u32; 4096], m: usize) -> u32
-    requires { Columns words.now size m }
-    ensures { InColumns class words.now size refs.old m 32 refs.new result }
+fn put_columns(words: &[u32], size: usize, class: u32, rest: &mut [u32]) -> u32
+    requires { Columns words.now size (length rest.old) }
+    ensures { InColumns class words.now size 32 rest.new result }
 {
     let mut wrong = 0;
     for k in 0..32 {
         let block = block_beside(words, size, k);
-        put_fields(block, size, k, refs, m);
+        put_fields(block, size, k, rest);
         wrong += is_wrong(block, class);
     }
     wrong
@@ -66,17 +66,17 @@ fn put_columns(words: &[u32], size: usize, class: u32, refs: &mut [u32; 4096], m
 
 impl<'a> Refs<'a> {
     // Puts the references of all 32, if their headers are right.
-    pub fn put_beside(self, words: &[u32], size: usize, class: u32) -> Option<Refs<'a>>
-        requires { AddingBeside class words.now size self }
-        ensures { AddedBeside class words.now size self.entry result }
+    pub fn put_beside(self, blocks: &[u32], size: usize, class: u32) -> Option<Refs<'a>>
+        requires { AddingBeside class blocks.now size self }
+        ensures { AddedBeside class blocks.now size self.entry result }
     {
-        let Refs { words: refs, count } = self;
-        let wrong = put_columns(words, size, class, refs, count);
+        let Refs { words, count } = self;
+        let wrong = put_columns(blocks, size, class, &mut words[count..]);
         if wrong != 0 {
             return None;
         }
         Some(Refs {
-            words: refs,
+            words,
             count: count + 32 * (size - 1),
         })
     }

@@ -2,9 +2,9 @@
 //
 // A segment has less than 4,096 of them: a block has room for its header besides. They are handed on by value, from
 // which each function makes those that it hands back: so their number stays in a register.
-ghost use Rattle.std.specs.Prelude.{◌≡◌, ◌+◌, [], ◌++◌, length, take};
+ghost use Rattle.std.specs.Prelude.{◌≡◌, ◌-◌, ◌<◌, ◌≤◌, [], ◌++◌, length, take};
 ghost use Rattle.model.specs.Word.{part};
-ghost use Rattle.references.specs.Gather.{Copying, Putting};
+ghost use Rattle.references.specs.Gather.{Putting};
 
 use std::marker::Model;
 
@@ -35,11 +35,11 @@ impl<'a> Refs<'a> {
 
     // Puts a block's r references behind them.
     pub fn put(self, block: &[u32], r: usize) -> Refs<'a>
-        requires { Putting block.now r (length self) }
+        requires { Putting block.now r (4096 - length self) }
         ensures { result ≡ self.entry ++ part block.now 1 r }
     {
         let Refs { words, count } = self;
-        put_references(block, r, words, count);
+        put_references(block, r, &mut words[count..]);
         Refs {
             words,
             count: count + r,
@@ -53,30 +53,30 @@ impl<'a> Refs<'a> {
     }
 }
 
-// Puts so many words of a block, from the one behind its header on, behind the first m words.
-fn copy(block: &[u32], count: usize, words: &mut [u32; 4096], m: usize)
-    requires { Copying block.now count m }
-    ensures { take (m + count) words.new ≡ take m words.old ++ part block.now 1 count }
+// Puts so many words of a block, from the one behind its header on.
+fn copy(block: &[u32], count: usize, rest: &mut [u32])
+    requires { (count < length block.now) × (count ≤ length rest.old) }
+    ensures { take count rest.new ≡ part block.now 1 count }
 {
     // copy_from_slice tests whether the two overlap
     for f in 0..count {
-        words[m + f] = block[1 + f];
+        rest[f] = block[1 + f];
     }
 }
 
-// Puts a block's r references there. Words behind them do no harm, since the next block's go over them, and a
+// Puts a block's r references. Words behind them do no harm, since the next block's go over them, and a
 // branch that depends on r costs more than they do: so a small block is copied whole, and a larger one at least 7 words.
-fn put_references(block: &[u32], r: usize, words: &mut [u32; 4096], m: usize)
-    requires { Putting block.now r m }
-    ensures { take (m + r) words.new ≡ take m words.old ++ part block.now 1 r }
+fn put_references(block: &[u32], r: usize, rest: &mut [u32])
+    requires { Putting block.now r (length rest.old) }
+    ensures { take r rest.new ≡ part block.now 1 r }
 {
     if block.len() == 2 {
-        copy(block, 1, words, m);
+        copy(block, 1, rest);
     } else if block.len() == 4 {
-        copy(block, 3, words, m);
+        copy(block, 3, rest);
     } else if 8 <= block.len() && r < 8 {
-        copy(block, 7, words, m);
+        copy(block, 7, rest);
     } else {
-        copy(block, r, words, m);
+        copy(block, r, rest);
     }
 }

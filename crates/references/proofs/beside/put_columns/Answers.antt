@@ -5,7 +5,7 @@ use Rattle.references.proofs.BesideLaws.{columns_none, columns_step}
 use Rattle.references.proofs.beside.put_columns.Goals as goal
 
 pub loop-k-init : goal.loop-k-init
-loop-k-init c = (omega arith, columns_none c.requires.beside _ _ _)
+loop-k-init c = (omega arith, columns_none c.requires.beside _ _)
 
 pub loop-k-preserved : goal.loop-k-preserved
 loop-k-preserved c =

@@ -5,4 +5,4 @@ use Rattle.references.specs.Beside.{InColumns}
 use Rattle.references.proofs.beside.put_columns.Given as goal
 
 abbrev pub invariant-loop-k : goal.invariant-loop-k
-invariant-loop-k l = (l.wrong ≤ l.k) × InColumns l.class l.words l.size l.initial.refs l.m l.k l.refs l.wrong
+invariant-loop-k l = (l.wrong ≤ l.k) × InColumns l.class l.words l.size l.k l.rest l.wrong

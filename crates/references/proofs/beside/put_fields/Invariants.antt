@@ -4,4 +4,4 @@ use Rattle.references.specs.Beside.{FieldsPut}
 use Rattle.references.proofs.beside.put_fields.Given as goal
 
 abbrev pub invariant-loop-f : goal.invariant-loop-f
-invariant-loop-f l = FieldsPut l.block l.k l.initial.refs l.m l.f l.refs
+invariant-loop-f l = FieldsPut l.block l.k l.f l.initial.rest l.rest

@@ -12,5 +12,5 @@ put-requires c =
     record {
       some = omega (arith, p.some, p.block);
       inside = omega (arith, p.block, room, c.header_r.ensures);
-      room = omega (arith, p.room, p.block);
+      enough = omega (arith, p.room, p.block);
     }
