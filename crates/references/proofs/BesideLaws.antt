@@ -3,12 +3,13 @@
 use Prim.Native.Nat.{ℕ, zero, suc, ◌+◌, ◌-◌, ◌*◌, ◌≤◌, ◌<◌}
 use mathlib.Core.Path.{◌≡◌, refl, sym, ap, ap₂, ◌∙◌}
 use mathlib.Core.Bool.{Bool, true, false, not, ◌&&◌, cond, and-true, and-false}
-use mathlib.Core.List.{List}
+use mathlib.Core.List.{List, ◌++◌}
 use native.Mathlib.Nat.{mul-add, mul-suc, add-zero, mul-le-mul_left, mul-le-mul_right}
 use native.Mathlib.Omega.{arith}
+use Rattle.std.proofs.Common.{Option, Some, None}
 use lib.Dec.{eqb}
-use lib.ListN.{length, set, length-set}
-use lib.Seq.{get_or-set_same, get_or-set_other}
+use lib.ListN.{length, take, set, length-append}
+use lib.Seq.{get_or-set_same, get_or-set_other, length-take-le}
 use borrow.Author.Count.{below_more}
 use borrow.Author.Tests.{lt-ltb, le-ltb, ne_eqb}
 use Rattle.model.specs.Below.{one_if, all_below}
@@ -20,8 +21,10 @@ use Rattle.laws.proofs.Below.{all_below_at, all_below_intro, all_below_ext, all_
 use Rattle.laws.proofs.Splice.{length_part, part_part}
 use Rattle.words.proofs.ClassLaws.{bounds_class, blocks_fill}
 use Rattle.words.proofs.HandleLaws.{block_in_arena}
-use Rattle.references.specs.Gather.{all_words, header_right, references_in, headed, references_of, GatheredBelow, AtFull}
-use Rattle.references.specs.Beside.{Beside, beside, reference_or_none, FieldsPut, InColumns, AddedBeside}
+use Rattle.taken.specs.Row.{all_words}
+use Rattle.references.specs.Gather.{header_right, references_in, headed, references_of, GatheredBelow, Of, AtFull}
+use Rattle.references.specs.Beside.{Beside, beside, reference_or_none, FieldsPut, InColumns, PutBeside, AddedBeside}
+use Rattle.taken.proofs.RowLaws.{all_words_append}
 use Rattle.references.proofs.GatherLaws.{all_words_take, all_words_part, header_room, headed_taken, references_taken, block_handed}
 
 -- ---- tests, field by field and block by block
@@ -47,18 +50,17 @@ by_rows (suc n) q =
 
 -- ---- putting columns
 
-pub fields_none : (b : List ℕ) (k : ℕ) (refs : List ℕ) (m : ℕ) → length refs ≡ 4096 → FieldsPut b k refs m 0 refs
-fields_none b k refs m e = record { long = e; others = λ o _. refl; fields = λ f l. absurd (omega arith) }
+pub fields_none : (b : List ℕ) (k : ℕ) (rest : List ℕ) → FieldsPut b k 0 rest rest
+fields_none b k rest = record { others = λ o _. refl; fields = λ f l. absurd (omega arith) }
 
-pub fields_step : {b : List ℕ} {k : ℕ} {refs refs' : List ℕ} {m n : ℕ} (v : ℕ) → FieldsPut b k refs m n refs' → v ≡ reference_or_none b n → m + 32 * n + k < 4096
-    → FieldsPut b k refs m (n + 1) (set refs' (m + 32 * n + k) v)
-fields_step {b} {k} {refs} {refs'} {m} {n} v h e l = record {
-  long = length-set refs' (m + 32 * n + k) v ∙ h.long;
+pub fields_step : {b : List ℕ} {k n : ℕ} {rest rest' : List ℕ} (v : ℕ) → FieldsPut b k n rest rest' → v ≡ reference_or_none b n → 32 * n + k < length rest'
+    → FieldsPut b k (n + 1) rest (set rest' (32 * n + k) v)
+fields_step {b} {k} {n} {rest} {rest'} v h e l = record {
   others = λ o apart.
-      get_or-set_other refs' (m + 32 * n + k) o v 0 (apart n (omega arith)) ∙ h.others o (λ f u. apart f (omega arith));
-  fields = below_more (λ (f : ℕ). word (set refs' (m + 32 * n + k) v) (m + 32 * f + k) ≡ reference_or_none b f) n
-      (λ f u. get_or-set_other refs' (m + 32 * n + k) (m + 32 * f + k) v 0 (λ q. omega arith) ∙ h.fields f u)
-      (get_or-set_same refs' (m + 32 * n + k) v 0 (omega (arith, h.long)) ∙ e);
+      get_or-set_other rest' (32 * n + k) o v 0 (apart n (omega arith)) ∙ h.others o (λ f u. apart f (omega arith));
+  fields = below_more (λ (f : ℕ). word (set rest' (32 * n + k) v) (32 * f + k) ≡ reference_or_none b f) n
+      (λ f u. get_or-set_other rest' (32 * n + k) (32 * f + k) v 0 (λ q. omega arith) ∙ h.fields f u)
+      (get_or-set_same rest' (32 * n + k) v 0 l ∙ e);
 }
 
 -- ---- one block: its references, and zeros
@@ -102,66 +104,68 @@ module _ {words : List ℕ} {size : ℕ} (b : Beside words size) where
       go true = ap (λ (x : ℕ). eqb x 0) (add-zero wrong) ∙ sym (and-true (eqb wrong 0))
       go false = ne_eqb (wrong + 1) 0 (λ z. omega arith) ∙ sym (and-false (eqb wrong 0))
 
-  pub columns_none : (i : ℕ) (refs : List ℕ) (m : ℕ) → length refs ≡ 4096 → InColumns i words size refs m 0 refs 0
+  pub columns_none : (i : ℕ) (rest : List ℕ) → InColumns i words size 0 rest 0
   unfolding all_below
-  columns_none i refs m e = record { long = e; before = λ o _. refl; fields = λ f k l u. absurd (omega arith); headers = refl }
+  columns_none i rest = record { fields = λ f k l u. absurd (omega arith); headers = refl }
 
-  pub columns_step : {i : ℕ} {block refs refs' refs'' : List ℕ} {m n wrong v : ℕ} → InColumns i words size refs m n refs' wrong → block ≡ beside words size n
-      → FieldsPut block n refs' m (size - 1) refs'' → n < 32 → v ≡ one_if (not (header_right i block))
-      → InColumns i words size refs m (n + 1) refs'' (wrong + v)
-  columns_step {i} {block} {refs} {refs'} {refs''} {m} {n} {wrong} {v} h own g l e = record {
-    long = g.long;
-    before = λ o u. g.others o (λ f q z. omega arith) ∙ h.before o u;
+  pub columns_step : {i : ℕ} {block rest rest' : List ℕ} {n wrong v : ℕ} → InColumns i words size n rest wrong → block ≡ beside words size n
+      → FieldsPut block n (size - 1) rest rest' → n < 32 → v ≡ one_if (not (header_right i block)) → InColumns i words size (n + 1) rest' (wrong + v)
+  columns_step {i} {block} {rest} {rest'} {n} {wrong} {v} h own g l e = record {
     fields = λ f k u.
-        below_more (λ (k : ℕ). word refs'' (m + 32 * f + k) ≡ reference_or_none (beside words size k) f) n
-        (λ k q. g.others (m + 32 * f + k) (λ f' _ z. omega arith) ∙ h.fields f k u q)
+        below_more (λ (k : ℕ). word rest' (32 * f + k) ≡ reference_or_none (beside words size k) f) n
+        (λ k q. g.others (32 * f + k) (λ f' _ z. omega arith) ∙ h.fields f k u q)
         (g.fields f (omega arith) ∙ ap (λ (x : List ℕ). reference_or_none x f) own) k;
     headers = wrong_step i wrong n v h.headers (e ∙ ap (λ (x : List ℕ). one_if (not (header_right i x))) own);
   }
 
-  pub added_beside : {refs refs' : List ℕ} {m i wrong : ℕ} → block_words i ≡ size → length refs ≡ 4096 → m + 32 * (size - 1) ≤ 4096
-      → InColumns i words size refs m 32 refs' wrong → AddedBeside i words size refs m refs' (eqb wrong 0) (m + 32 * (size - 1))
-  added_beside {refs} {refs'} {m} {i} {wrong} own long room c = record {
-    long = c.long;
-    headers = c.headers;
-    counted = refl;
-    tests = λ yes_right p none.
-        all_words_take p (m + 32 * n) refs' (omega (arith, c.long))
-        ∙ all_below_add m (32 * n) (λ o. p (word refs' o))
-        ∙ ap₂ ◌&&◌
-        (all_below_ext m (λ o. p (word refs' o)) (λ o. p (word refs o)) (λ o l. ap p (c.before o l)) ∙ sym (all_words_take p m refs (omega (arith, long))))
-        (by_rows n (λ o. p (word refs' (m + o)))
-        ∙ all_below_ext n (λ f. all_below 32 (λ k. p (word refs' (m + (32 * f + k))))) (λ f. all_below 32 (λ k. p (reference_or_none (beside words size k) f)))
-        (λ f l. all_below_ext 32 (λ k. p (word refs' (m + (32 * f + k)))) (λ k. p (reference_or_none (beside words size k) f)) (λ k u. ap p (ap (word refs') (omega arith) ∙ c.fields f k (omega arith) u)))
-        ∙ exchanged n 32 (λ f k. p (reference_or_none (beside words size k) f))
-        ∙ all_below_ext 32 (λ k. all_below n (λ f. p (reference_or_none (beside words size k) f))) (λ k. all_words p (references_in (beside words size k)))
-        (λ k u.
-        ap (λ (z : ℕ). all_below (z - 1) (λ f. p (reference_or_none (beside words size k) f))) (sym (beside_long k u))
-        ∙ one_block (beside words size k)
-        (omega (arith, own, beside_long k u, header_room i (beside words size k) (all_below_at 32 (λ k. header_right i (beside words size k)) (sym c.headers ∙ yes_right) k u)))
-        p none));
-  }
+  pub added_beside : (refs rest : List ℕ) (i wrong : ℕ) → block_words i ≡ size → 32 * (size - 1) ≤ length rest → InColumns i words size 32 rest wrong
+      → AddedBeside i words size refs (cond (eqb wrong 0) (Some (refs ++ take (32 * (size - 1)) rest)) None)
+  added_beside refs rest i wrong own room c = go (eqb wrong 0) c.headers
     where
       n : ℕ
       n = size - 1
+
+      right : ℕ → Bool
+      right k = header_right i (beside words size k)
+
+      go : (t : Bool) → t ≡ all_below 32 right → AddedBeside i words size refs (cond t (Some (refs ++ take (32 * n) rest)) None)
+      go false e = sym e
+      go true e = record {
+        headers = sym e;
+        counted = length-append refs (take (32 * n) rest) ∙ ap (λ (x : ℕ). length refs + x) (length-take-le (32 * n) rest room);
+        tests = λ p none.
+            all_words_append p refs (take (32 * n) rest)
+            ∙ ap (λ (t : Bool). all_words p refs && t)
+            (all_words_take p (32 * n) rest room
+            ∙ by_rows n (λ o. p (word rest o))
+            ∙ all_below_ext n (λ f. all_below 32 (λ k. p (word rest (32 * f + k)))) (λ f. all_below 32 (λ k. p (reference_or_none (beside words size k) f)))
+            (λ f l. all_below_ext 32 (λ k. p (word rest (32 * f + k))) (λ k. p (reference_or_none (beside words size k) f)) (λ k u. ap p (c.fields f k (omega arith) u)))
+            ∙ exchanged n 32 (λ f k. p (reference_or_none (beside words size k) f))
+            ∙ all_below_ext 32 (λ k. all_below n (λ f. p (reference_or_none (beside words size k) f))) (λ k. all_words p (references_in (beside words size k)))
+            (λ k u.
+            ap (λ (z : ℕ). all_below (z - 1) (λ f. p (reference_or_none (beside words size k) f))) (sym (beside_long k u))
+            ∙ one_block (beside words size k)
+            (omega (arith, own, beside_long k u, header_room i (beside words size k) (all_below_at 32 right (sym e) k u)))
+            p none));
+      }
 
 -- ---- 32 blocks of a segment
 
 less : (z : ℕ) → z - 1 ≤ z
 less z = omega arith
 
-module _ {ws : List ℕ} {N s i j : ℕ} {refs : List ℕ} {m : ℕ} (a : AtFull ws N s i j refs m) where
+module _ {ws : List ℕ} {N s i j : ℕ} {refs : List ℕ} (of : Of ws N s i) (a : AtFull ws s i j refs) where
   own : block_words (class ws s) ≡ block_words i
-  own = ap block_words (sym a.of.member.class)
+  own = ap block_words (sym of.member.class)
 
   pub full_class : is_class i ≡ true
-  full_class = bounds_class i a.of.member.low a.of.member.high
+  full_class = bounds_class i of.member.low of.member.high
 
-  pub full_room : m + 32 * (block_words i - 1) ≤ 4096
+  pub full_room : length refs + 32 * (block_words i - 1) ≤ 4096
   full_room =
       omega (
         arith,
-        a.gathered.few refl,
+        a.gathered.few,
         own,
         blocks_fill i full_class,
         mul-le-mul_left (block_words i) a.inside,
@@ -177,37 +181,42 @@ module _ {ws : List ℕ} {N s i j : ℕ} {refs : List ℕ} {m : ℕ} (a : AtFull
   full_within =
       omega (
         arith,
-        a.of.member.long,
-        a.of.all,
-        ap arena_length a.of.all,
-        block_in_arena N s i (32 * j + 31) (omega (arith, a.of.member.there, a.of.all)) full_class (omega (arith, a.inside)),
+        of.member.long,
+        of.all,
+        ap arena_length of.all,
+        block_in_arena N s i (32 * j + 31) (omega (arith, of.member.there, of.all)) full_class (omega (arith, a.inside)),
         mul-add (block_words i) (32 * j) 31,
       )
 
-  pub full_gathered : {words refs' : List ℕ} {size : ℕ} {right : Bool} {count : ℕ} → size ≡ block_words i → words ≡ part ws (block_at N s i (32 * j)) (32 * size)
-      → AddedBeside i words size refs m refs' right count → GatheredBelow ws s (32 * j + 32) refs' right count
-  full_gathered {words} {refs'} {size} {right} {count} big e d = record {
-    long = d.long;
-    headers =
-        d.headers
-        ∙ all_below_ext 32 (λ k. header_right i (beside words size k)) (λ k. headed ws s (32 * j + k))
-        (λ k l. ap₂ header_right a.of.member.class (its_block k l) ∙ sym (headed_taken ws s (32 * j + k) (a.taken k l)))
-        ∙ ap (λ (t : Bool). t && all_below 32 (λ k. headed ws s (32 * j + k))) a.gathered.headers
-        ∙ sym (all_below_add (32 * j) 32 (headed ws s));
-    room = λ _. omega (arith, d.counted, big, full_room);
-    few = λ _. omega (arith, d.counted, big, own, a.gathered.few refl, mul-add (block_words (class ws s) - 1) (32 * j) 32);
-    tests = λ r p none.
-        d.tests r p none
-        ∙ ap₂ ◌&&◌ (a.gathered.tests refl p none)
-        (all_below_ext 32 (λ k. all_words p (references_in (beside words size k))) (λ k. all_words p (references_of ws s (32 * j + k)))
-        (λ k l. ap (all_words p) (ap references_in (its_block k l) ∙ sym (references_taken ws s (32 * j + k) (a.taken k l)))))
-        ∙ sym (all_below_add (32 * j) 32 (λ k. all_words p (references_of ws s k)));
-  }
+  pub full_gathered : {words : List ℕ} {size : ℕ} (added : Option (List ℕ)) → size ≡ block_words i → words ≡ part ws (block_at N s i (32 * j)) (32 * size)
+      → AddedBeside i words size refs added → GatheredBelow ws s (32 * j + 32) added
+  full_gathered {words} {size} added big e d = go added d
     where
       its_block : (k : ℕ) → k < 32 → beside words size k ≡ block_of ws s (32 * j + k)
       its_block k l =
           let place : block_at N s i (32 * j) + size * k ≡ block_at N s i (32 * j + k) = omega (arith, mul-add (block_words i) (32 * j) k, ap (λ (z : ℕ). z * k) big) in
-          block_handed a.of (32 * j + k)
+          block_handed of (32 * j + k)
           (ap (λ (xs : List ℕ). part xs (size * k) size) e
           ∙ part_part ws (block_at N s i (32 * j)) (32 * size) (size * k) size (omega (arith, big, full_within)) (omega (arith, mul-le-mul_left size l, mul-suc size k))
           ∙ ap₂ (part ws) place big)
+
+      -- the headers of all blocks up to there
+      headers : all_below (32 * j + 32) (headed ws s) ≡ all_below 32 (λ k. header_right i (beside words size k))
+      headers =
+          all_below_add (32 * j) 32 (headed ws s)
+          ∙ ap₂ ◌&&◌ a.gathered.headers
+          (all_below_ext 32 (λ k. headed ws s (32 * j + k)) (λ k. header_right i (beside words size k))
+          (λ k l. headed_taken ws s (32 * j + k) (a.taken k l) ∙ sym (ap₂ header_right of.member.class (its_block k l))))
+
+      go : (added : Option (List ℕ)) → AddedBeside i words size refs added → GatheredBelow ws s (32 * j + 32) added
+      go None wrong = headers ∙ wrong
+      go (Some refs') d = record {
+        headers = headers ∙ d.headers;
+        few = omega (arith, d.counted, big, own, a.gathered.few, mul-add (block_words (class ws s) - 1) (32 * j) 32);
+        tests = λ p none.
+            d.tests p none
+            ∙ ap₂ ◌&&◌ (a.gathered.tests p none)
+            (all_below_ext 32 (λ k. all_words p (references_in (beside words size k))) (λ k. all_words p (references_of ws s (32 * j + k)))
+            (λ k l. ap (all_words p) (ap references_in (its_block k l) ∙ sym (references_taken ws s (32 * j + k) (a.taken k l)))))
+            ∙ sym (all_below_add (32 * j) 32 (λ k. all_words p (references_of ws s k)));
+      }

@@ -3,15 +3,16 @@
 use Prim.Native.Nat.{ℕ, suc, ◌+◌, ◌-◌, ◌*◌, ◌^◌, ◌≤◌, ◌<◌}
 use mathlib.Core.Path.{◌≡◌, refl, sym, ap, ap₂, subst, ◌∙◌}
 use mathlib.Core.Bool.{Bool, true, false, not, ◌&&◌, ◌||◌, and-true, and-false, and-eq-true_iff, false≢true}
-use mathlib.Core.List.{List, [], ◌∷◌, ◌++◌, append-nil, append_assoc}
-use native.Mathlib.Nat.{add-zero, mul-add, mul-le-mul_left, mul-le-mul_right}
+use mathlib.Core.List.{List, [], ◌∷◌, ◌++◌, append_assoc}
+use native.Mathlib.Nat.{mul-add, mul-le-mul_left, mul-le-mul_right}
 use native.Mathlib.Numerals.{add-one}
 use native.Mathlib.Omega.{arith}
+use Rattle.std.proofs.Common.{Option, Some, None}
 use lib.Dec.{eqb, leb, ltb}
 use lib.Bits.{bit_and, and_le_r}
 use lib.Count.{count_trailing_zeros, trailing_le, trailing_of_zero}
-use lib.ListN.{length, take, drop, set, length-append, length-set, length-drop, get_or-append}
-use lib.Seq.{length-take-le, get_or-take, take-take, take-append-add, take-suc, take-suc-set, get_or-drop, get_or-append-add}
+use lib.ListN.{length, take, drop, set, length-append, length-take, length-drop}
+use lib.Seq.{length-take-le, get_or-take, take-take, take-append-le, take-append-add, take-suc, take-suc-set, get_or-drop}
 use borrow.Author.Tests.{le-ltb, ltb-true, ltb-false, eqb-true, eqb-false, ne_eqb, leb-true}
 use Rattle.model.specs.Below.{all_below}
 use Rattle.model.specs.Word.{word, part, bit}
@@ -24,19 +25,11 @@ use Rattle.laws.proofs.Bits.{bit_zero, bit_and_pred, trailing_first, word_ext}
 use Rattle.laws.proofs.Splice.{length_part, word_part}
 use Rattle.words.proofs.ClassLaws.{class_rule, bounds_class, class_room}
 use Rattle.words.proofs.HandleLaws.{block_inside, block_in_arena}
-use Rattle.taken.specs.Row.{TakenRow}
-use Rattle.references.specs.Gather.{all_words, header_right, references_in, headed, references_of, Copied, Added, GatheredBelow, Of, AtWord}
-use Rattle.taken.proofs.RowLaws.{taken_at_inside, is_taken_at, row_bit_taken}
+use Rattle.taken.specs.Row.{all_words, TakenRow}
+use Rattle.references.specs.Gather.{header_right, references_in, headed, references_of, Added, Gathered, GatheredBelow, Of, AtWord}
+use Rattle.taken.proofs.RowLaws.{all_words_append, taken_at_inside, is_taken_at, row_bit_taken}
 
 -- ---- a test of each word of a list
-
-pub all_words_append : (p : ℕ → Bool) (xs ys : List ℕ) → all_words p (xs ++ ys) ≡ (all_words p xs && all_words p ys)
-all_words_append p xs ys =
-    ap (λ (n : ℕ). all_below n (λ f. p (word (xs ++ ys) f))) (length-append xs ys)
-    ∙ all_below_add (length xs) (length ys) (λ f. p (word (xs ++ ys) f))
-    ∙ ap₂ ◌&&◌
-    (all_below_ext (length xs) (λ f. p (word (xs ++ ys) f)) (λ f. p (word xs f)) (λ f l. ap p (get_or-append xs ys 0 f l)))
-    (all_below_ext (length ys) (λ f. p (word (xs ++ ys) (length xs + f))) (λ f. p (word ys f)) (λ f l. ap p (get_or-append-add xs ys f 0)))
 
 pub all_words_take : (p : ℕ → Bool) (n : ℕ) (xs : List ℕ) → n ≤ length xs → all_words p (take n xs) ≡ all_below n (λ f. p (word xs f))
 all_words_take p n xs l =
@@ -51,41 +44,42 @@ all_words_part p xs o n l =
     ap (λ (m : ℕ). all_below m (λ f. p (word (part xs o n) f))) (length_part xs o n l)
     ∙ all_below_ext n (λ f. p (word (part xs o n) f)) (λ f. p (word xs (o + f))) (λ f u. ap p (word_part xs o n f u))
 
--- ---- copying one reference more
+-- ---- the first words of a row
 
-pub copied_none : (b refs : List ℕ) (m : ℕ) → length refs ≡ 4096 → Copied b refs 0 m refs
-copied_none b refs m e = record { long = e; words = ap (λ (n : ℕ). take n refs) (add-zero m) ∙ sym (append-nil (take m refs)) }
+-- how many they are
+pub first_words : (words : List ℕ) {refs : List ℕ} {n : ℕ} → (n ≤ 4096) × (length words ≡ 4096) → take n words ≡ refs → n ≡ length refs
+first_words words {refs} {n} (l, e) same = sym (length-take-le n words (omega arith)) ∙ ap length same
 
-pub copied_step : {b refs refs' : List ℕ} {f m : ℕ} → Copied b refs f m refs' → f + 1 < length b → m + f < 4096
-    → Copied b refs (f + 1) m (set refs' (m + f) (word b (1 + f)))
-copied_step {b} {refs} {refs'} {f} {m} c l u = record {
-  long = length-set refs' (m + f) v ∙ c.long;
-  words =
-      ap (λ (n : ℕ). take n (set refs' (m + f) v)) next ∙ take-suc-set refs' (m + f) v (omega (arith, c.long))
-      ∙ ap (λ (xs : List ℕ). xs ++ (v ∷ [])) c.words ∙ append_assoc (take m refs) (part b 1 f) (v ∷ [])
-      ∙ ap (λ (xs : List ℕ). take m refs ++ xs) (sym longer);
-}
+-- there is room for as many words as are missing
+pub words_behind : (words : List ℕ) (n : ℕ) → (n ≤ 4096) × (length words ≡ 4096) → length (take (4096 - n) (drop n words)) ≡ 4096 - n
+words_behind words n (l, e) = simp (length-take, length-drop) (omega arith)
+
+-- and m of those that are put behind them
+pub longer_words : (words rest post : List ℕ) {refs : List ℕ} {n : ℕ} (m : ℕ) → (n ≤ 4096) × (length words ≡ 4096) → take n words ≡ refs → m ≤ length rest
+    → take (n + m) (take n words ++ (rest ++ post)) ≡ refs ++ take m rest
+longer_words words rest post {refs} {n} m (l, e) same u =
+    ap (λ (k : ℕ). take (k + m) (take n words ++ (rest ++ post))) (sym (length-take-le n words (omega arith)))
+    ∙ take-append-add (take n words) (rest ++ post) m ∙ ap₂ ◌++◌ same (take-append-le m rest post u)
+
+-- ---- copying the words of a block
+
+-- one word more
+pub copied_step : (b rest : List ℕ) (f : ℕ) → take f rest ≡ part b 1 f → f + 1 < length b → f < length rest
+    → take (f + 1) (set rest f (word b (1 + f))) ≡ part b 1 (f + 1)
+copied_step b rest f c l u =
+    ap (λ (n : ℕ). take n (set rest f v)) (add-one f) ∙ take-suc-set rest f v u ∙ ap (λ (xs : List ℕ). xs ++ (v ∷ [])) c ∙ sym longer
   where
     v : ℕ
     v = word b (1 + f)
-
-    next : m + (f + 1) ≡ suc (m + f)
-    next = omega arith
 
     longer : part b 1 (f + 1) ≡ part b 1 f ++ (v ∷ [])
     longer =
         ap (λ (n : ℕ). take n (drop 1 b)) (add-one f) ∙ take-suc (drop 1 b) f 0 (simp length-drop (omega arith))
         ∙ ap (λ (x : ℕ). part b 1 f ++ (x ∷ [])) (get_or-drop 1 b f 0)
 
--- and fewer of them
-pub copied_less : {b refs refs' : List ℕ} {w m : ℕ} (r : ℕ) → Copied b refs w m refs' → r ≤ w → m ≤ length refs → Copied b refs r m refs'
-copied_less {b} {refs} {refs'} {w} {m} r c l u = record {
-  long = c.long;
-  words =
-      sym (take-take (m + r) (m + w) refs' (omega arith)) ∙ ap (take (m + r)) c.words
-      ∙ ap (λ (n : ℕ). take (n + r) (take m refs ++ part b 1 w)) (sym (length-take-le m refs u))
-      ∙ take-append-add (take m refs) (part b 1 w) r ∙ ap (λ (xs : List ℕ). take m refs ++ xs) (take-take r w (drop 1 b) l);
-}
+-- fewer of them than were copied
+pub copied_less : (b rest : List ℕ) (w r : ℕ) → take w rest ≡ part b 1 w → r ≤ w → take r rest ≡ part b 1 r
+copied_less b rest w r c l = sym (take-take r w rest l) ∙ ap (take r) c ∙ take-take r w (drop 1 b) l
 
 -- ---- headers
 
@@ -137,17 +131,17 @@ module _ (ws : List ℕ) (s : ℕ) where
 -- ---- from block to block
 
 -- nothing is gathered yet
-pub gathered_none : (ws : List ℕ) (s : ℕ) (refs : List ℕ) → length refs ≡ 4096 → GatheredBelow ws s 0 refs true 0
+pub gathered_none : (ws : List ℕ) (s : ℕ) → Gathered ws s 0 []
 unfolding all_below
-gathered_none ws s refs e = record { long = e; headers = refl; room = λ _. omega arith; few = λ _. omega arith; tests = λ _ p none. refl }
+gathered_none ws s = record { headers = refl; few = omega arith; tests = λ p none. refl }
 
 -- so there is room for those of one block more
-pub gathered_room : {ws : List ℕ} {s k : ℕ} {refs : List ℕ} {m : ℕ} → GatheredBelow ws s k refs true m → is_class (class ws s) ≡ true
-    → k < blocks (class ws s) → m + (block_words (class ws s) - 1) ≤ 4096
+pub gathered_room : {ws : List ℕ} {s k : ℕ} {refs : List ℕ} → Gathered ws s k refs → is_class (class ws s) ≡ true
+    → k < blocks (class ws s) → length refs + (block_words (class ws s) - 1) ≤ 4096
 gathered_room {ws} {s} {k} g c l =
     omega (
       arith,
-      g.few refl,
+      g.few,
       block_inside (class ws s) k c l,
       mul-le-mul_right k (less (block_words (class ws s))),
     )
@@ -155,46 +149,42 @@ gathered_room {ws} {s} {k} g c l =
     less : (w : ℕ) → w - 1 ≤ w
     less w = omega arith
 
-pub gathered_step : {ws : List ℕ} {s k i : ℕ} {b refs refs' : List ℕ} {m : ℕ} {right : Bool} {count : ℕ} → GatheredBelow ws s k refs true m
-    → taken_at ws s k ≡ true → i ≡ class ws s → b ≡ block_of ws s k → Added i b refs m refs' right count → GatheredBelow ws s (k + 1) refs' right count
-gathered_step {ws} {s} {k} {i} {b} {refs} {refs'} {m} {right} {count} g t e u a = record {
-  long = a.long;
-  headers =
-      a.header ∙ ap₂ header_right e u
-      ∙ sym (all_below_step k (headed ws s) ∙ ap₂ ◌&&◌ (sym g.headers) (headed_taken ws s k t));
-  room = a.room;
-  few = λ r. omega (arith, a.few r, g.few refl, ap block_words e, mul-add (block_words (class ws s) - 1) k 1);
-  tests = λ r p none.
-      ap (all_words p) (a.words r) ∙ all_words_append p (take m refs) (references_in b)
-      ∙ ap₂ ◌&&◌ (g.tests refl p none) (ap (all_words p) (ap references_in u ∙ sym (references_taken ws s k t)))
+pub gathered_step : {ws : List ℕ} {s k i : ℕ} {b refs : List ℕ} (added : Option (List ℕ)) → Gathered ws s k refs
+    → taken_at ws s k ≡ true → k < blocks (class ws s) → length b ≡ block_words i → i ≡ class ws s → b ≡ block_of ws s k → Added i b refs added
+    → GatheredBelow ws s (k + 1) added
+gathered_step {ws} {s} {k} {i} {b} {refs} None g t inside long e u wrong =
+    all_below_step k (headed ws s) ∙ ap₂ ◌&&◌ g.headers (headed_taken ws s k t ∙ sym (ap₂ header_right e u) ∙ wrong)
+gathered_step {ws} {s} {k} {i} {b} {refs} (Some refs') g t inside long e u (right, words) = record {
+  headers = all_below_step k (headed ws s) ∙ ap₂ ◌&&◌ g.headers (headed_taken ws s k t ∙ sym (ap₂ header_right e u) ∙ right);
+  few =
+      let room = header_room i b right in
+      omega (
+        arith,
+        ap length words,
+        length-append refs (references_in b),
+        length_part b 1 (r_in b) (omega (arith, long, room)),
+        room,
+        g.few,
+        ap block_words e,
+        mul-add (block_words (class ws s) - 1) k 1,
+      );
+  tests = λ p none.
+      ap (all_words p) words ∙ all_words_append p refs (references_in b)
+      ∙ ap₂ ◌&&◌ (g.tests p none) (ap (all_words p) (ap references_in u ∙ sym (references_taken ws s k t)))
       ∙ sym (all_below_step k (λ k. all_words p (references_of ws s k)));
 }
 
-pub gathered_skip : {ws : List ℕ} {s a b : ℕ} {refs : List ℕ} {right : Bool} {m : ℕ} → GatheredBelow ws s a refs right m → a ≤ b
-    → ((k : ℕ) → a ≤ k → k < b → taken_at ws s k ≡ false) → GatheredBelow ws s b refs right m
+pub gathered_skip : {ws : List ℕ} {s a b : ℕ} {refs : List ℕ} → Gathered ws s a refs → a ≤ b
+    → ((k : ℕ) → a ≤ k → k < b → taken_at ws s k ≡ false) → Gathered ws s b refs
 gathered_skip {ws} {s} {a} {b} g l free = record {
-  long = g.long;
-  headers = g.headers ∙ sym (skip_headed ws s a b l free);
-  room = g.room;
-  few = λ r. omega (arith, g.few r, mul-le-mul_left (block_words (class ws s) - 1) l);
-  tests = λ r p none. g.tests r p none ∙ sym (skip_tests ws s a b l free p);
+  headers = skip_headed ws s a b l free ∙ g.headers;
+  few = omega (arith, g.few, mul-le-mul_left (block_words (class ws s) - 1) l);
+  tests = λ p none. g.tests p none ∙ sym (skip_tests ws s a b l free p);
 }
-
-pub gathered_right : {ws : List ℕ} {s k : ℕ} {refs : List ℕ} {right : Bool} {m : ℕ} → GatheredBelow ws s k refs right m → right ≡ true
-    → GatheredBelow ws s k refs true m
-gathered_right g e = record { long = g.long; headers = sym e ∙ g.headers; room = λ _. g.room e; few = λ _. g.few e; tests = λ _. g.tests e }
 
 -- one wrong header is enough
-pub gathered_wrong : {ws : List ℕ} {s a b : ℕ} {refs : List ℕ} {right : Bool} {m : ℕ} → GatheredBelow ws s a refs right m → right ≡ false → a ≤ b
-    → GatheredBelow ws s b refs right m
-gathered_wrong {ws} {s} {a} {b} g e l = record {
-  long = g.long;
-  headers =
-      e ∙ sym (all_below_split a b (headed ws s) l ∙ ap (λ (t : Bool). t && all_below (b - a) (λ k. headed ws s (a + k))) (sym g.headers ∙ e));
-  room = λ r. absurd (false≢true (sym e ∙ r));
-  few = λ r. absurd (false≢true (sym e ∙ r));
-  tests = λ r. absurd (false≢true (sym e ∙ r));
-}
+pub gathered_wrong : (ws : List ℕ) (s a b : ℕ) → all_below a (headed ws s) ≡ false → a ≤ b → all_below b (headed ws s) ≡ false
+gathered_wrong ws s a b e l = all_below_split a b (headed ws s) l ∙ ap (λ (t : Bool). t && all_below (b - a) (λ k. headed ws s (a + k))) e
 
 -- ---- by the set bits of a word
 
@@ -242,13 +232,13 @@ module _ (w : ℕ) (h : w < 2 ^ 32) (some : w ≡ 0 → ⊥) where
   left_less = omega (arith, and_le_r w (w - 1))
 
 -- the blocks of word j before the lowest bit that is left are gathered, and from there on the bits left are the word's
-pub record Left (ws : List ℕ) (s j w left : ℕ) (refs : List ℕ) (count : ℕ) : Type 0 where
+pub record Left (ws : List ℕ) (s j w left : ℕ) (refs : List ℕ) : Type 0 where
   pub small : left < 2 ^ 32
   pub bits : (b : ℕ) → b < 32 → count_trailing_zeros 32 left ≤ b → bit left b ≡ bit w b
-  pub gathered : GatheredBelow ws s (32 * j + count_trailing_zeros 32 left) refs true count
+  pub gathered : Gathered ws s (32 * j + count_trailing_zeros 32 left) refs
 
-module _ {ws : List ℕ} {N s i j w : ℕ} {refs : List ℕ} {m : ℕ} where
-  pub left_all : AtWord ws N s i j w refs m → w < 2 ^ 32 → Left ws s j w w refs m
+module _ {ws : List ℕ} {s j w : ℕ} {refs : List ℕ} where
+  pub left_all : AtWord ws s j w refs → w < 2 ^ 32 → Left ws s j w w refs
   left_all a h = record {
     small = h;
     bits = λ b l u. refl;
@@ -260,9 +250,8 @@ module _ {ws : List ℕ} {N s i j w : ℕ} {refs : List ℕ} {m : ℕ} where
           ap (taken_at ws s) e ∙ sym (a.bits b (omega (arith, trailing_le 32 w))) ∙ trailing_before w b (omega arith)
 
   -- one block more: those between it and the next set bit are not taken
-  pub left_step : {left : ℕ} {refs' : List ℕ} {count : ℕ} → AtWord ws N s i j w refs m → Left ws s j w left refs' count → (left ≡ 0 → ⊥)
-      → {refs'' : List ℕ} {count' : ℕ} → GatheredBelow ws s (32 * j + count_trailing_zeros 32 left + 1) refs'' true count'
-      → Left ws s j w (bit_and left (left - 1)) refs'' count'
+  pub left_step : {left : ℕ} {refs' refs'' : List ℕ} → AtWord ws s j w refs → Left ws s j w left refs' → (left ≡ 0 → ⊥)
+      → Gathered ws s (32 * j + count_trailing_zeros 32 left + 1) refs'' → Left ws s j w (bit_and left (left - 1)) refs''
   left_step {left} a h some g = record {
     small = omega (arith, h.small, left_less left h.small some);
     bits = λ b l u. left_bit left h.small some b (λ e. omega (arith, later)) ∙ h.bits b l (omega (arith, later));
@@ -279,15 +268,14 @@ module _ {ws : List ℕ} {N s i j w : ℕ} {refs : List ℕ} {m : ℕ} where
           ∙ sym (left_bit left h.small some b (λ d. omega arith)) ∙ trailing_before (bit_and left (left - 1)) b (omega arith)
 
   -- the block of the lowest bit that is left is taken
-  pub left_taken : {left : ℕ} {refs' : List ℕ} {count : ℕ} → AtWord ws N s i j w refs m → Left ws s j w left refs' count → (left ≡ 0 → ⊥)
+  pub left_taken : {left : ℕ} {refs' : List ℕ} → AtWord ws s j w refs → Left ws s j w left refs' → (left ≡ 0 → ⊥)
       → taken_at ws s (32 * j + count_trailing_zeros 32 left) ≡ true
   left_taken {left} a h some =
       let small = trailing_lt left h.small some in
       sym (a.bits (count_trailing_zeros 32 left) small) ∙ sym (h.bits (count_trailing_zeros 32 left) small (omega arith)) ∙ trailing_found left small
 
-pub left_none : {ws : List ℕ} {s j w left : ℕ} {refs : List ℕ} {count : ℕ} → Left ws s j w left refs count → left ≡ 0
-    → GatheredBelow ws s (32 * j + 32) refs true count
-left_none {ws} {s} {j} {w} {left} {refs} {count} h e =
+pub left_none : {ws : List ℕ} {s j w left : ℕ} {refs : List ℕ} → Left ws s j w left refs → left ≡ 0 → Gathered ws s (32 * j + 32) refs
+left_none {ws} {s} {j} {w} {left} {refs} h e =
     rw (ap (λ (x : ℕ). 32 * j + count_trailing_zeros 32 x) e, trailing_of_zero 32) at h.gathered
 
 -- ---- blocks of the arena
@@ -314,8 +302,8 @@ module _ {ws : List ℕ} {N s i : ℕ} (o : Of ws N s i) where
       length_part ws (block_offset ws s k) (block_words (class ws s))
       (omega (arith, o.member.long, block_in_arena (segments ws) s (class ws s) k o.member.there of_class l))
 
-  pub handed_long : {b : List ℕ} (k : ℕ) → b ≡ part ws (block_at N s i k) (block_words i) → k < blocks (class ws s) → length b ≡ block_words i
-  handed_long k e l = ap length (block_handed k e) ∙ block_long k l ∙ ap block_words (sym o.member.class)
+  pub handed_long : {b : List ℕ} (k : ℕ) → b ≡ block_of ws s k → k < blocks (class ws s) → length b ≡ block_words i
+  handed_long k e l = ap length e ∙ block_long k l ∙ ap block_words (sym o.member.class)
 
 -- ---- word by word
 
@@ -335,6 +323,6 @@ row_word_bits {ws} {row} t s j b there inside small =
     ∙ ap₂ (taken_at ws) (omega arith) (omega arith)
 
 -- where blocks are not large, their bits fill whole words
-pub gathered_end : {ws : List ℕ} {s end : ℕ} {refs : List ℕ} {right : Bool} {m i : ℕ} → GatheredBelow ws s end refs right m → 3 ≤ i → i ≤ 7
-    → end ≡ 32 * words_for (blocks i) → GatheredBelow ws s (blocks i) refs right m
-gathered_end {ws} {s} {end} {refs} {right} {m} {i} g low small e = subst (λ (n : ℕ). GatheredBelow ws s n refs right m) (e ∙ whole_words i low small) g
+pub gathered_end : {ws : List ℕ} {s end : ℕ} {refs : List ℕ} {i : ℕ} → Gathered ws s end refs → 3 ≤ i → i ≤ 7
+    → end ≡ 32 * words_for (blocks i) → Gathered ws s (blocks i) refs
+gathered_end {ws} {s} {end} {refs} {i} g low small e = subst (λ (n : ℕ). Gathered ws s n refs) (e ∙ whole_words i low small) g

@@ -1,26 +1,25 @@
 -- Laws of the judge: with right headers, all is right with a segment's taken blocks where the gathered references are each 0 or a taken block.
 -- Assumes nothing.
-use Prim.Native.Nat.{ℕ, ◌+◌, ◌*◌, ◌<◌}
+use Prim.Native.Nat.{ℕ, zero, suc, ◌+◌, ◌*◌, ◌<◌}
 use mathlib.Core.Path.{◌≡◌, refl, sym, ap, ap₂, ◌∙◌}
 use mathlib.Core.Bool.{Bool, true, false, not, ◌&&◌, ◌||◌, and_assoc}
 use mathlib.Core.List.{List}
 use native.Mathlib.Omega.{arith}
 use lib.Dec.{eqb, leb}
-use lib.ListN.{take}
 use borrow.Author.Tests.{ne_eqb}
+use Rattle.std.specs.List.{list_all, range_with_len}
 use Rattle.model.specs.Below.{all_below}
 use Rattle.model.specs.Word.{part}
-use Rattle.model.specs.Class.{blocks, block_words, class_of}
-use Rattle.model.specs.Layout.{block_at}
+use Rattle.model.specs.Class.{blocks, class_of}
 use Rattle.model.specs.View.{segments, class, block_of, n_in, r_in, reference_in}
 use Rattle.model.specs.Standing.{in_pool, taken_at, none_or_taken}
 use Rattle.model.specs.Sound.{block_right, taken_right}
-use Rattle.laws.proofs.Below.{all_below_at, all_below_ext, all_below_fails, all_below_finds}
+use Rattle.laws.proofs.Below.{all_below_at, all_below_ext, all_below_add, all_below_fails, all_below_finds}
 use Rattle.words.proofs.ClassLaws.{bounds_class, blocks_most}
-use Rattle.taken.specs.Row.{TakenRow, row_taken, row_none_or_taken}
-use Rattle.references.specs.Gather.{all_words, references_in, header_right, headed, references_of, right_at, segment_right, GatheredBelow, Of}
+use Rattle.taken.specs.Row.{all_words, TakenRow, row_taken, row_none_or_taken}
+use Rattle.references.specs.Gather.{references_in, header_right, headed, references_of, right_at, segment_right, Gathered, Of}
 use Rattle.taken.proofs.RowLaws.{row_none_or_taken_is, row_taken_is, is_taken_at}
-use Rattle.references.proofs.GatherLaws.{all_words_ext, all_words_part, header_room, headed_free, headed_taken, references_free, references_taken, block_long, block_handed, taken_inside}
+use Rattle.references.proofs.GatherLaws.{all_words_ext, all_words_part, header_room, headed_free, headed_taken, references_free, references_taken, block_long, taken_inside}
 
 -- ---- one block
 
@@ -36,6 +35,23 @@ unfolding header_right block_right
 wrong_header ws i b t =
     sym (and_assoc (eqb (class_of (n_in b)) i) (leb (r_in b) (n_in b)) (all_below (r_in b) (λ f. none_or_taken ws (reference_in b f))))
     ∙ ap (λ (u : Bool). u && all_below (r_in b) (λ f. none_or_taken ws (reference_in b f))) t
+
+-- ---- of all numbers of a range
+
+range_all : (p : ℕ → Bool) (a n : ℕ) → list_all p (range_with_len a n) ≡ all_below n (λ k. p (a + k))
+unfolding all_below
+range_all p a zero = refl
+range_all p a (suc n) =
+    let first : a + 0 ≡ a = omega arith in
+    let more : 1 + n ≡ suc n = omega arith in
+    ap (λ (t : Bool). p a && t)
+    (range_all p (a + 1) n ∙ all_below_ext n (λ k. p (a + 1 + k)) (λ k. p (a + (1 + k))) (λ k _. ap p (omega arith)))
+    ∙ ap (λ (x : ℕ). p x && all_below n (λ k. p (a + (1 + k)))) (sym first)
+    ∙ sym (all_below_add 1 n (λ k. p (a + k))) ∙ ap (λ (m : ℕ). all_below m (λ k. p (a + k))) more
+
+-- what `(0..n).all(p)` answers
+pub range_all_below : (p : ℕ → Bool) (n : ℕ) → list_all p (range_with_len 0 n) ≡ all_below n p
+range_all_below p n = range_all p 0 n ∙ all_below_ext n (λ k. p (0 + k)) p (λ k _. ap p (omega arith))
 
 -- ---- one segment
 
@@ -69,23 +85,23 @@ module _ {ws : List ℕ} {N s i : ℕ} (o : Of ws N s i) where
           ∙ sym (right_header ws (class ws s) b header)
       go false e = ap (all_words (none_or_taken ws)) (references_free ws s k e)
 
-  pub judged_wrong : {refs : List ℕ} {right : Bool} {m : ℕ} → GatheredBelow ws s (blocks i) refs right m → right ≡ false → in_pool ws s ≡ false → segment_right ws s ≡ false
+  pub judged_wrong : all_below (blocks i) (headed ws s) ≡ false → segment_right ws s ≡ false
   unfolding segment_right
-  judged_wrong g e p =
-      let found = all_below_finds (blocks i) (headed ws s) (sym g.headers ∙ e) in
-      rw p (all_below_fails (blocks (class ws s)) (right_at ws s) found.0 (omega (arith, found.1, ap blocks o.member.class)) (wrong_at found.0 found.2))
+  judged_wrong wrong =
+      let found = all_below_finds (blocks i) (headed ws s) wrong in
+      rw of_used (all_below_fails (blocks (class ws s)) (right_at ws s) found.0 (omega (arith, found.1, ap blocks o.member.class)) (wrong_at found.0 found.2))
 
-  pub judged_right : {refs : List ℕ} {right : Bool} {m : ℕ} {row : List ℕ} {r : Bool} → GatheredBelow ws s (blocks i) refs right m → right ≡ true
-      → in_pool ws s ≡ false → TakenRow ws row → r ≡ all_words (row_none_or_taken row) (take m refs) → r ≡ segment_right ws s
+  pub judged_right : {refs : List ℕ} {row : List ℕ} {r : Bool} → Gathered ws s (blocks i) refs → TakenRow ws row
+      → r ≡ all_words (row_none_or_taken row) refs → r ≡ segment_right ws s
   unfolding segment_right
-  judged_right {refs} {right} {m} {row} g e p t tested =
+  judged_right {refs} {row} g t tested =
       tested
-      ∙ all_words_ext (row_none_or_taken row) (none_or_taken ws) (take m refs) (row_none_or_taken_is t)
-      ∙ g.tests e (none_or_taken ws) refl
+      ∙ all_words_ext (row_none_or_taken row) (none_or_taken ws) refs (row_none_or_taken_is t)
+      ∙ g.tests (none_or_taken ws) refl
       ∙ ap (λ (n : ℕ). all_below n (λ k. all_words (none_or_taken ws) (references_of ws s k))) same
       ∙ all_below_ext (blocks (class ws s)) (λ k. all_words (none_or_taken ws) (references_of ws s k)) (right_at ws s)
-      (λ k l. right_references k l (all_below_at (blocks i) (headed ws s) (sym g.headers ∙ e) k (omega (arith, same))))
-      ∙ ap (λ (u : Bool). u || all_below (blocks (class ws s)) (right_at ws s)) (sym p)
+      (λ k l. right_references k l (all_below_at (blocks i) (headed ws s) g.headers k (omega (arith, same))))
+      ∙ ap (λ (u : Bool). u || all_below (blocks (class ws s)) (right_at ws s)) (sym of_used)
     where
       same : blocks i ≡ blocks (class ws s)
       same = ap blocks o.member.class
@@ -102,28 +118,26 @@ module _ {ws : List ℕ} {N s i : ℕ} (o : Of ws N s i) where
   unfolding right_at
   free_right k e = rw e
 
-  pub header_wrong : {b : List ℕ} {right : Bool} (k : ℕ) → b ≡ part ws (block_at N s i k) (block_words i) → right ≡ header_right i b → right ≡ false
+  pub header_wrong : {b : List ℕ} {right : Bool} (k : ℕ) → b ≡ block_of ws s k → right ≡ header_right i b → right ≡ false
       → taken_at ws s k ≡ true → false ≡ right_at ws s k
   unfolding right_at
   header_wrong {b} {right} k e h wrong t =
-      let same = block_handed o k e in
-      rw t (sym (wrong_header ws (class ws s) (block_of ws s k) (ap₂ header_right (sym o.member.class) (sym same) ∙ sym h ∙ wrong)))
+      rw t (sym (wrong_header ws (class ws s) (block_of ws s k) (ap₂ header_right (sym o.member.class) (sym e) ∙ sym h ∙ wrong)))
 
-  pub references_right : {b : List ℕ} {right answer : Bool} {row : List ℕ} (k : ℕ) → b ≡ part ws (block_at N s i k) (block_words i) → right ≡ header_right i b
+  pub references_right : {b : List ℕ} {right answer : Bool} {row : List ℕ} (k : ℕ) → b ≡ block_of ws s k → right ≡ header_right i b
       → right ≡ true → taken_at ws s k ≡ true → TakenRow ws row → answer ≡ all_words (row_none_or_taken row) (references_in b) → answer ≡ right_at ws s k
   references_right {b} {right} {answer} {row} k e h right_one t r a =
-      let same = block_handed o k e in
-      let header = ap₂ header_right (sym o.member.class) (sym same) ∙ sym h ∙ right_one in
+      let header = ap₂ header_right (sym o.member.class) (sym e) ∙ sym h ∙ right_one in
       a
       ∙ all_words_ext (row_none_or_taken row) (none_or_taken ws) (part b 1 (r_in b)) (row_none_or_taken_is r)
-      ∙ ap (λ (x : List ℕ). all_words (none_or_taken ws) (part x 1 (r_in x))) same
+      ∙ ap (λ (x : List ℕ). all_words (none_or_taken ws) (part x 1 (r_in x))) e
       ∙ ap (all_words (none_or_taken ws)) (sym (references_taken ws s k t))
       ∙ right_references k (taken_inside ws s k t) (headed_taken ws s k t ∙ header)
 
-  pub large_judged : {answer : Bool} → in_pool ws s ≡ false → answer ≡ all_below (blocks i) (right_at ws s) → answer ≡ segment_right ws s
+  pub large_judged : {answer : Bool} → answer ≡ all_below (blocks i) (right_at ws s) → answer ≡ segment_right ws s
   unfolding segment_right
-  large_judged p a =
-      a ∙ ap (λ (n : ℕ). all_below n (right_at ws s)) (ap blocks o.member.class) ∙ ap (λ (u : Bool). u || all_below (blocks (class ws s)) (right_at ws s)) (sym p)
+  large_judged a =
+      a ∙ ap (λ (n : ℕ). all_below n (right_at ws s)) (ap blocks o.member.class) ∙ ap (λ (u : Bool). u || all_below (blocks (class ws s)) (right_at ws s)) (sym of_used)
 
 -- ---- the whole
 

@@ -1,23 +1,19 @@
 -- What the judge gathers of a segment: whether the headers of its taken blocks are right, and the references of those blocks end to end.
 -- Assumes nothing.
-use Rattle.std.specs.Prelude.{ℕ, ◌+◌, ◌-◌, ◌*◌, ◌≤◌, ◌<◌, ◌≡◌, Bool, true, not, cond, ◌&&◌, ◌||◌, List, [], ◌++◌, length, take, eqb, leb}
+use Rattle.std.specs.Prelude.{ℕ, ◌+◌, ◌-◌, ◌*◌, ◌≤◌, ◌<◌, ◌≡◌, Bool, true, false, not, Option, MatchOption, cond, ◌&&◌, ◌||◌, List, [], ◌++◌, length, eqb, leb}
 use Rattle.model.specs.Below.{all_below}
-use Rattle.model.specs.Word.{word, part, bit}
+use Rattle.model.specs.Word.{part, bit}
 use Rattle.model.specs.Class.{blocks, block_words, class_of}
 use Rattle.model.specs.Layout.{block_at}
 use Rattle.model.specs.View.{segments, class, block_of, n_in, r_in}
 use Rattle.model.specs.Standing.{in_pool, taken_at}
 use Rattle.model.specs.Sound.{block_right}
 use Rattle.arena.specs.Inside.{Classed}
-use Rattle.taken.specs.Row.{Member, TakenRow}
+use Rattle.taken.specs.Row.{all_words, Member, TakenRow}
 
 -- a header of class i: "n whose class is the segment's, r not above n"
 unfoldable pub header_right : ℕ → List ℕ → Bool
 header_right i b = eqb (class_of (n_in b)) i && leb (r_in b) (n_in b)
-
--- a test of each word of a list
-abbrev pub all_words : (ℕ → Bool) → List ℕ → Bool
-all_words p xs = all_below (length xs) (λ f. p (word xs f))
 
 -- a block's references
 abbrev pub references_in : List ℕ → List ℕ
@@ -38,49 +34,34 @@ right_at ws s k = not (taken_at ws s k) || block_right ws (class ws s) (block_of
 unfoldable pub segment_right : List ℕ → ℕ → Bool
 segment_right ws s = in_pool ws s || all_below (blocks (class ws s)) (right_at ws s)
 
--- ---- what one block adds to the references that are gathered already, the first m words of the row
-
--- asked to copy the r words behind a block's header, and what that leaves
-pub record Copying (b refs : List ℕ) (r m : ℕ) : Type 0 where
-  pub inside : r < length b
-  pub long : length refs ≡ 4096
-  pub room : m + r ≤ 4096
-
-pub record Copied (b refs : List ℕ) (r m : ℕ) (refs' : List ℕ) : Type 0 where
-  pub long : length refs' ≡ 4096
-  pub words : take (m + r) refs' ≡ take m refs ++ part b 1 r
+-- ---- what one block adds to the references that are gathered already
 
 -- asked for a block's r references: there is room for all its words but the header
-pub record Putting (b refs : List ℕ) (r m : ℕ) : Type 0 where
+pub record Putting (b : List ℕ) (r room : ℕ) : Type 0 where
   pub some : 2 ≤ length b
   pub inside : r < length b
-  pub long : length refs ≡ 4096
-  pub room : m + (length b - 1) ≤ 4096
+  pub enough : length b - 1 ≤ room
 
 -- asked for a block whose header is not tested yet, and what that leaves
-pub record Adding (i : ℕ) (b refs : List ℕ) (m : ℕ) : Type 0 where
+pub record Adding (i : ℕ) (b refs : List ℕ) : Type 0 where
   pub block : length b ≡ block_words i
   pub some : 2 ≤ block_words i
-  pub long : length refs ≡ 4096
-  pub room : m + (block_words i - 1) ≤ 4096
+  pub room : length refs + (block_words i - 1) ≤ 4096
 
-pub record Added (i : ℕ) (b refs : List ℕ) (m : ℕ) (refs' : List ℕ) (right : Bool) (count : ℕ) : Type 0 where
-  pub long : length refs' ≡ 4096
-  pub header : right ≡ header_right i b
-  pub room : right ≡ true → count ≤ 4096
-  pub few : right ≡ true → count ≤ m + (block_words i - 1)
-  pub words : right ≡ true → take count refs' ≡ take m refs ++ references_in b
+abbrev pub Added : ℕ → List ℕ → List ℕ → Option (List ℕ) → Type 0
+Added i b refs added = MatchOption added (header_right i b ≡ false) (λ refs'. (header_right i b ≡ true) × (refs' ≡ refs ++ references_in b))
 
 -- ---- what the blocks of a segment below `end` give
 
--- where their headers are right, the row has their references, and perhaps zeros: a test that 0 passes is passed by all words of the row exactly
--- if all references pass it
-pub record GatheredBelow (ws : List ℕ) (s end : ℕ) (refs : List ℕ) (right : Bool) (count : ℕ) : Type 0 where
-  pub long : length refs ≡ 4096
-  pub headers : right ≡ all_below end (headed ws s)
-  pub room : right ≡ true → count ≤ 4096
-  pub few : right ≡ true → count ≤ (block_words (class ws s) - 1) * end
-  pub tests : right ≡ true → (p : ℕ → Bool) → p 0 ≡ true → all_words p (take count refs) ≡ all_below end (λ k. all_words p (references_of ws s k))
+-- with right headers, their references, and perhaps zeros: a test that 0 passes is passed by all of them exactly if all references pass it
+pub record Gathered (ws : List ℕ) (s end : ℕ) (refs : List ℕ) : Type 0 where
+  pub headers : all_below end (headed ws s) ≡ true
+  pub few : length refs ≤ (block_words (class ws s) - 1) * end
+  pub tests : (p : ℕ → Bool) → p 0 ≡ true → all_words p refs ≡ all_below end (λ k. all_words p (references_of ws s k))
+
+-- and nothing where a header is wrong
+abbrev pub GatheredBelow : List ℕ → ℕ → ℕ → Option (List ℕ) → Type 0
+GatheredBelow ws s end gathered = MatchOption gathered (all_below end (headed ws s) ≡ false) (Gathered ws s end)
 
 -- segment s, of class i, of an arena of N segments
 pub record Of (ws : List ℕ) (N s i : ℕ) : Type 0 where
@@ -88,57 +69,31 @@ pub record Of (ws : List ℕ) (N s i : ℕ) : Type 0 where
   pub member : Member ws s i
 
 -- asked for the taken block k, with the references of those before it
-pub record AtBlock (ws : List ℕ) (N s i k : ℕ) (refs : List ℕ) (m : ℕ) : Type 0 where
-  pub of : Of ws N s i
+pub record AtBlock (ws : List ℕ) (s k : ℕ) (refs : List ℕ) : Type 0 where
   pub taken : taken_at ws s k ≡ true
-  pub gathered : GatheredBelow ws s k refs true m
+  pub gathered : Gathered ws s k refs
 
 -- asked for the 32 blocks of word j, with the references of those before them
-pub record AtWord (ws : List ℕ) (N s i j w : ℕ) (refs : List ℕ) (m : ℕ) : Type 0 where
-  pub of : Of ws N s i
+pub record AtWord (ws : List ℕ) (s j w : ℕ) (refs : List ℕ) : Type 0 where
   pub inside : j < 64
   pub bits : (b : ℕ) → b < 32 → bit w b ≡ taken_at ws s (32 * j + b)
-  pub gathered : GatheredBelow ws s (32 * j) refs true m
+  pub gathered : Gathered ws s (32 * j) refs
 
 -- asked for them where all are taken, and small
-pub record AtFull (ws : List ℕ) (N s i j : ℕ) (refs : List ℕ) (m : ℕ) : Type 0 where
-  pub of : Of ws N s i
+pub record AtFull (ws : List ℕ) (s i j : ℕ) (refs : List ℕ) : Type 0 where
   pub small : i ≤ 4
   pub inside : 32 * j + 32 ≤ blocks i
   pub taken : (b : ℕ) → b < 32 → taken_at ws s (32 * j + b) ≡ true
-  pub gathered : GatheredBelow ws s (32 * j) refs true m
+  pub gathered : Gathered ws s (32 * j) refs
 
 -- asked for so many words from block k on
 pub record From (ws : List ℕ) (N s i k count : ℕ) : Type 0 where
-  pub of : Of ws N s i
   pub inside : k < blocks i
   pub within : block_at N s i k + count ≤ length ws
 
--- asked for a whole segment of blocks that are not large
-pub record AtSegment (ws : List ℕ) (N s i : ℕ) (row refs : List ℕ) : Type 0 where
-  pub of : Of ws N s i
-  pub small : i ≤ 7
-  pub taken : TakenRow ws row
-  pub long : length refs ≡ 4096
-
--- asked to judge a segment of large blocks, and one of its blocks
-pub record Large (ws : List ℕ) (N s i : ℕ) (row : List ℕ) : Type 0 where
-  pub of : Of ws N s i
-  pub taken : TakenRow ws row
-
-pub record AtLarge (ws : List ℕ) (N s i : ℕ) (row : List ℕ) (k : ℕ) : Type 0 where
-  pub of : Of ws N s i
-  pub taken : TakenRow ws row
-  pub inside : k < blocks i
-
--- asked to judge any segment, and what that leaves
-pub record Judging (ws : List ℕ) (N s : ℕ) (row refs : List ℕ) : Type 0 where
+-- asked to judge any segment
+pub record Judging (ws row : List ℕ) (N s : ℕ) : Type 0 where
   pub classed : Classed ws
+  pub taken : TakenRow ws row
   pub all : N ≡ segments ws
   pub there : s < N
-  pub taken : TakenRow ws row
-  pub long : length refs ≡ 4096
-
-pub record Judged (ws : List ℕ) (s : ℕ) (refs : List ℕ) (right : Bool) : Type 0 where
-  pub long : length refs ≡ 4096
-  pub judged : right ≡ segment_right ws s

@@ -5,11 +5,11 @@
 ghost use Rattle.std.specs.Prelude.{◌≡◌, not, ◌+◌, ◌-◌, ◌<◌, ◌≤◌, length};
 ghost use Rattle.model.specs.Below.{one_if};
 ghost use Rattle.references.specs.Gather.{header_right};
-ghost use Rattle.references.specs.Beside.{Beside, beside, reference_or_none, Fields, FieldsPut, InColumns, AddingBeside, AddedBeside};
+ghost use Rattle.references.specs.Beside.{Beside, beside, reference_or_none, Fields, FieldsPut, InColumns, Columns, AddingBeside, AddedBeside};
 
-use crate::gather::{Gathered, header_right};
+use crate::gather::header_right;
+use crate::refs::Refs;
 use words::fields::header_r;
-use words::slices::wide;
 
 // 1 for a wrong header, 0 for a right one.
 fn is_wrong(block: &[u32], class: u32) -> u32
@@ -25,7 +25,11 @@ fn reference_or_none(block: &[u32], f: usize) -> u32
     ensures { result ≡ reference_or_none block.now f }
 {
     let v = block[1 + f];
-    if f < wide(header_r(block[0])) { v } else { 0 }
+    if f < header_r(block[0]) as usize {
+        v
+    } else {
+        0
+    }
 }
 
 // Block k of 32 that stand side by side.
@@ -33,53 +37,47 @@ fn block_beside(words: &[u32], size: usize, k: usize) -> &[u32]
     requires { Beside words.now size × (k < 32) }
     ensures { result.now ≡ beside words.now size k }
 {
-    let from = size * k;
-    let end = from + size;
-    &words[from..end]
+    &words[size * k..size * k + size]
 }
 
-// Puts the references of block k of 32, each at place k of its field's 32 words, from word m on.
-fn put_fields(block: &[u32], size: usize, k: usize, refs: &mut [u32; 4096], m: usize)
-    requires { Fields block.now size k refs.old m }
-    ensures { FieldsPut block.now k refs.old m (size - 1) refs.new }
+// Puts the references of block k of 32, each at place k of its field's 32 words.
+fn put_fields(block: &[u32], size: usize, k: usize, rest: &mut [u32])
+    requires { Fields block.now size k (length rest.old) }
+    ensures { FieldsPut block.now k (size - 1) rest.old rest.new }
 {
-    let mut f: usize = 0;
-    while f + 1 < size {
-        refs[m + 32 * f + k] = reference_or_none(block, f);
-        f += 1;
+    for f in 0..size - 1 {
+        rest[32 * f + k] = reference_or_none(block, f);
     }
 }
 
 // The same of all of them. Gives how many headers are wrong.
-fn put_columns(words: &[u32], size: usize, class: u32, refs: &mut [u32; 4096], m: usize) -> u32
-    requires { AddingBeside class words.now size refs.old m }
-    ensures { InColumns class words.now size refs.old m 32 refs.new result }
+fn put_columns(words: &[u32], size: usize, class: u32, rest: &mut [u32]) -> u32
+    requires { Columns words.now size (length rest.old) }
+    ensures { InColumns class words.now size 32 rest.new result }
 {
-    let mut wrong: u32 = 0;
-    let mut k: usize = 0;
-    while k < 32 {
+    let mut wrong = 0;
+    for k in 0..32 {
         let block = block_beside(words, size, k);
-        put_fields(block, size, k, refs, m);
+        put_fields(block, size, k, rest);
         wrong += is_wrong(block, class);
-        k += 1;
     }
     wrong
 }
 
-// Gathers the references of all 32, and says whether their headers are right.
-pub fn gather_beside(
-    words: &[u32],
-    size: usize,
-    class: u32,
-    refs: &mut [u32; 4096],
-    m: usize,
-) -> Gathered
-    requires { AddingBeside class words.now size refs.old m }
-    ensures { AddedBeside class words.now size refs.old m refs.new result.right result.count }
-{
-    let wrong = put_columns(words, size, class, refs, m);
-    Gathered {
-        right: wrong == 0,
-        count: m + 32 * (size - 1),
+impl<'a> Refs<'a> {
+    // Puts the references of all 32, if their headers are right.
+    pub fn put_beside(self, blocks: &[u32], size: usize, class: u32) -> Option<Refs<'a>>
+        requires { AddingBeside class blocks.now size self }
+        ensures { AddedBeside class blocks.now size self.entry result }
+    {
+        let Refs { words, count } = self;
+        let wrong = put_columns(blocks, size, class, &mut words[count..]);
+        if wrong != 0 {
+            return None;
+        }
+        Some(Refs {
+            words,
+            count: count + 32 * (size - 1),
+        })
     }
 }

@@ -10,3 +10,4 @@
 mod beside;
 mod gather;
 pub mod judge;
+mod refs;

@@ -4,13 +4,16 @@ use Prim.Native.Nat.{ℕ, zero, suc, ◌+◌, ◌-◌, ◌*◌, ◌/◌, ◌%◌
 use mathlib.Core.Path.{◌≡◌, refl, sym, ap, ap₂, ◌∙◌}
 use mathlib.Core.Bool.{Bool, true, false, not, ◌&&◌, ◌||◌, and_comm, and-false}
 use mathlib.Core.Logic.{◌⊎◌, inl, inr}
-use mathlib.Core.List.{List}
+use mathlib.Core.List.{List, ◌++◌}
 use native.Mathlib.Nat.{add-zero}
+use native.Mathlib.Numerals.{add-one}
 use native.Mathlib.Omega.{arith}
+use Rattle.std.proofs.Common.{sum_by}
+use Rattle.std.proofs.lemmas.List.Sums.{sum_by_more}
 use lib.Dec.{eqb, ltb}
-use lib.ListN.{length, get_or, set, replicate, length-set, length-replicate, get_or-replicate, get_or-eq_default}
+use lib.ListN.{length, set, replicate, take, drop, length-drop, length-set, length-replicate, get_or-replicate, get_or-eq_default, length-append, get_or-append}
 use native.Mathlib.Decide.{dec_lt}
-use lib.Seq.{get_or-set_same, get_or-set_other}
+use lib.Seq.{get_or-set_same, get_or-set_other, get_or-drop, get_or-append-add}
 use lib.Bits.{bit_and, bit_or, or_lt, and_lt, or_add_and, and_le_l, and_le_r}
 use lib.Pow.{shr_le}
 use borrow.Author.Count.{below_more}
@@ -21,11 +24,11 @@ use Rattle.model.specs.Class.{blocks, words_for}
 use Rattle.model.specs.Layout.{arena_length, record_at, segment_of, index_of}
 use Rattle.model.specs.View.{segments, place_rank, place_index, record_of, class, rank, bit_of}
 use Rattle.model.specs.Standing.{in_pool, is_block, before_place, taken_at, is_taken, none_or_taken, taken_count}
-use Rattle.laws.proofs.Below.{all_below_step, count_below_ext, count_below_add}
+use Rattle.laws.proofs.Below.{all_below_ext, all_below_add, count_below_ext, count_below_add}
 use Rattle.laws.proofs.Splice.{length_part}
 use Rattle.laws.proofs.Bits.{bit_zero, bit_ones, bit_past, bit_pow, bit_shift, bit_of_and, bit_of_or, bit_word_of_bits, word_of_bits_lt, word_of_bits_ext, word_ext}
 use Rattle.arena.specs.Rows.{row_bit}
-use Rattle.taken.specs.Row.{asked_bit, TakenRow, row_taken, row_none_or_taken, Limit, row_word, Filled, ZeroRow, Blank, Fill, taken_word, Segment, AskedBelow}
+use Rattle.taken.specs.Row.{asked_bit, TakenRow, row_taken, row_none_or_taken, Limit, row_word, Filled, ZeroRow, Blank, Fill, taken_word, Segment, all_words, seen_right}
 
 -- ---- the word of the ones below a limit
 
@@ -336,6 +339,17 @@ count_word row o =
     (count_below_ext 32 (λ k. row_bit row (32 * o + k + 1)) (bit (word row (1 + o)))
     (λ k l. ap₂ (λ (p b : ℕ). bit (word row p) b) (omega arith) (omega arith)))
 
+-- and of all words of n segments, one by one
+pub count_words : (row : List ℕ) (n : ℕ) → 1 + n ≤ length row
+    → sum_by (λ w. count_below 32 (bit w)) (take n (drop 1 row)) ≡ count_below (32 * n) (λ x. row_bit row (x + 1))
+unfolding count_below
+count_words row zero l = refl
+count_words row (suc n) l =
+    ap (λ (m : ℕ). sum_by (λ w. count_below 32 (bit w)) (take m (drop 1 row))) (sym (add-one n))
+    ∙ sum_by_more (λ w. count_below 32 (bit w)) (drop 1 row) n 0 (simp length-drop (omega arith))
+    ∙ ap₂ ◌+◌ (count_words row n (omega arith)) (ap (λ (w : ℕ). count_below 32 (bit w)) (get_or-drop 1 row n 0))
+    ∙ sym (count_word row n) ∙ ap (λ (m : ℕ). count_below (32 * m) (λ x. row_bit row (x + 1))) (add-one n)
+
 -- `row[at / 32 % 8192] >> (at % 32)`
 pub asked_is : (row : List ℕ) (h : ℕ) → bit (word row ((h + 31) / 32 % 8192) / 2 ^ ((h + 31) % 32)) 0 ≡ asked_bit row h
 asked_is row h =
@@ -352,30 +366,24 @@ or_below a b = go (ltb a 262144) refl (ltb b 262144) refl
     go true s false t = le-ltb (bit_or a b) 262144 (omega (arith, ltb-false b 262144 t, or_add_and a b, and_le_l a b))
     go false s u t = le-ltb (bit_or a b) 262144 (omega (arith, ltb-false a 262144 s, or_add_and a b, and_le_r a b))
 
-pub asked_no_word : (row words : List ℕ) → AskedBelow row words 0 1 0
-unfolding every
-asked_no_word row words = record { so_far = refl }
+-- the words of two lists
+pub all_words_append : (p : ℕ → Bool) (xs ys : List ℕ) → all_words p (xs ++ ys) ≡ (all_words p xs && all_words p ys)
+all_words_append p xs ys =
+    ap (λ (n : ℕ). every n (λ f. p (word (xs ++ ys) f))) (length-append xs ys)
+    ∙ all_below_add (length xs) (length ys) (λ f. p (word (xs ++ ys) f))
+    ∙ ap₂ ◌&&◌
+    (all_below_ext (length xs) (λ f. p (word (xs ++ ys) f)) (λ f. p (word xs f)) (λ f l. ap p (get_or-append xs ys 0 f l)))
+    (all_below_ext (length ys) (λ f. p (word (xs ++ ys) (length xs + f))) (λ f. p (word ys f)) (λ f l. ap p (get_or-append-add xs ys f 0)))
 
-pub asked_one_more : {row words : List ℕ} {p all over : ℕ} (w : ℕ) → AskedBelow row words p all over → bit w 0 ≡ asked_bit row (get_or words p 0)
-    → AskedBelow row words (p + 1) (bit_and all w) (bit_or over (get_or words p 0))
-asked_one_more {row} {words} {p} {all} {over} w h e = record {
-  so_far =
-      ap₂ ◌&&◌ (or_below over (get_or words p 0)) (bit_of_and all w 0 ∙ ap (λ (t : Bool). bit all 0 && t) e)
-      ∙ exchange (ltb over 262144) (ltb (get_or words p 0) 262144) (bit all 0) (asked_bit row (get_or words p 0))
-      ∙ ap (λ (t : Bool). t && row_none_or_taken row (get_or words p 0)) h.so_far
-      ∙ sym (all_below_step p (λ k. row_none_or_taken row (get_or words k 0)));
-}
+-- one word more
+pub seen_word : (all over w h : ℕ) (row : List ℕ) → bit w 0 ≡ asked_bit row h
+    → seen_right (bit_and all w) (bit_or over h) ≡ (seen_right all over && row_none_or_taken row h)
+seen_word all over w h row e =
+    ap₂ ◌&&◌ (or_below over h) (bit_of_and all w 0 ∙ ap (λ (t : Bool). bit all 0 && t) e)
+    ∙ exchange (ltb over 262144) (ltb h 262144) (bit all 0) (asked_bit row h)
   where
     exchange : (a b c d : Bool) → ((a && b) && (c && d)) ≡ ((a && c) && (b && d))
     exchange true true c d = refl
     exchange true false true d = refl
     exchange true false false d = refl
     exchange false b c d = refl
-
-pub asked_over : {row words : List ℕ} {p all over : ℕ} → AskedBelow row words p all over → 262144 ≤ over
-    → every p (λ k. row_none_or_taken row (get_or words k 0)) ≡ false
-asked_over {all = all} {over = over} h l = sym h.so_far ∙ ap (λ (t : Bool). t && bit all 0) (le-ltb over 262144 l)
-
-pub asked_all : {row words : List ℕ} {p all over : ℕ} → AskedBelow row words p all over → over < 262144
-    → bit all 0 ≡ every p (λ k. row_none_or_taken row (get_or words k 0))
-asked_all {all = all} {over = over} h l = ap (λ (t : Bool). t && bit all 0) (sym (lt-ltb over 262144 l)) ∙ h.so_far

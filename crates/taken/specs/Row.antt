@@ -1,6 +1,6 @@
 -- The taken row: a row of 8,192 words (crate arena, Rows) in which the bit of handle h is 1 exactly if h is 0 or the handle of a taken block.
 -- Assumes nothing.
-use Rattle.std.specs.Prelude.{ℕ, ◌+◌, ◌*◌, ◌/◌, ◌%◌, ◌≤◌, ◌<◌, ◌≡◌, ◌⊎◌, Bool, not, ◌&&◌, ◌||◌, List, length, get_or, eqb, ltb}
+use Rattle.std.specs.Prelude.{ℕ, ◌+◌, ◌*◌, ◌/◌, ◌%◌, ◌≤◌, ◌<◌, ◌≡◌, ◌⊎◌, Bool, not, ◌&&◌, ◌||◌, List, length, eqb, ltb}
 use Rattle.model.specs.Below.{all_below}
 use Rattle.model.specs.Word.{word, bit, word_of_bits}
 use Rattle.model.specs.Class.{blocks}
@@ -26,16 +26,13 @@ row_taken row h = not (eqb h 0) && row_none_or_taken row h
 
 -- ---- asking it of many words
 
--- the words before p have been asked: `all` has the bits that theirs have in common, and `over` every bit of any of them
-pub record AskedBelow (row words : List ℕ) (p all over : ℕ) : Type 0 where
-  pub so_far : (ltb over 262144 && bit all 0) ≡ all_below p (λ k. row_none_or_taken row (get_or words k 0))
+-- a test of each word of a list
+abbrev pub all_words : (ℕ → Bool) → List ℕ → Bool
+all_words p xs = all_below (length xs) (λ f. p (word xs f))
 
--- so many more, and all that are left
-abbrev pub AskedMore : List ℕ → List ℕ → ℕ → ℕ → ℕ → ℕ → ℕ → ℕ → Type 0
-AskedMore row words p n all over all' over' = AskedBelow row words p all over → AskedBelow row words (p + n) all' over'
-
-abbrev pub AskedAll : List ℕ → List ℕ → ℕ → ℕ → ℕ → ℕ → ℕ → Type 0
-AskedAll row words p all over all' over' = AskedBelow row words p all over → AskedBelow row words (length words) all' over'
+-- what is seen of some words: each is low enough for a handle, as `over` is, which has every bit of any of them, and the lowest bit of `all` is set
+abbrev pub seen_right : ℕ → ℕ → Bool
+seen_right all over = ltb over 262144 && bit all 0
 
 -- ---- what is asked
 

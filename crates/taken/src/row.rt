@@ -10,24 +10,20 @@ ghost use Rattle.arena.specs.Inside.{Classed};
 ghost use Rattle.taken.specs.Row.{TakenRow, Member, Limit, Filled, ZeroRow, Blank, Fill, taken_word, Words, Segment};
 
 use arena::{class, place_of, rank, record_of, segments};
+use std::cmp::Ordering;
 use words::class::blocks;
 use words::fields::{place_index, place_rank};
-use words::slices::wide;
 
 // The word whose bit b is 1 exactly if 32 j + b is below the limit.
 fn below(limit: u32, j: u32) -> u32
     requires { j < 64 }
     ensures { result ≡ word_of_bits (λ b. ltb (32 * j + b) limit) }
 {
-    let from = 32 * j;
-    if limit <= from {
-        return 0;
+    match limit.saturating_sub(32 * j) {
+        0 => 0,
+        left @ 1..=31 => 0xFFFF_FFFF >> (32 - left),
+        _ => 0xFFFF_FFFF,
     }
-    let left = limit - from;
-    if 32 <= left {
-        return 0xFFFF_FFFF;
-    }
-    0xFFFF_FFFF >> (32 - left)
 }
 
 // Word j of a segment, from its level-0 word.
@@ -44,15 +40,11 @@ fn limit_of(arena: &[u32], s: u32, class: u32) -> u32
     ensures { Limit arena.now s result }
 {
     let place = place_of(arena, class);
-    let own = rank(arena, s);
-    let first = place_rank(place);
-    if own < first {
-        return blocks(class);
+    match rank(arena, s).cmp(&place_rank(place)) {
+        Ordering::Less => blocks(class),
+        Ordering::Equal => place_index(place),
+        Ordering::Greater => 0,
     }
-    if own == first {
-        return place_index(place);
-    }
-    0
 }
 
 // The words of a segment with such a record and so many blocks.
@@ -60,12 +52,10 @@ fn fill_words(rec: &[u32], limit: u32, blocks: u32, row: &mut [u32; 8192], at: u
     requires { Words rec.now row.old blocks at }
     ensures { Segment rec.now limit blocks row.old row.new at (words_for blocks) }
 {
-    let words = (blocks + 31) / 32;
-    let mut j: u32 = 0;
-    while j < words {
-        let o = wide(j);
+    let words = blocks.div_ceil(32);
+    for j in 0..words {
+        let o = j as usize;
         row[at + o] = taken_word(rec[1 + o], limit, blocks, j);
-        j += 1;
     }
 }
 
@@ -79,7 +69,7 @@ fn fill_segment(arena: &[u32], s: u32, row: &mut [u32; 8192])
         return;
     }
     let rec = record_of(arena, s);
-    let at = 1 + 64 * wide(s);
+    let at = 1 + 64 * s as usize;
     fill_words(rec, limit_of(arena, s, class), blocks(class), row, at);
 }
 
@@ -98,10 +88,7 @@ pub fn fill_row(arena: &[u32], row: &mut [u32; 8192])
     ensures { TakenRow arena.now row.new }
 {
     blank(row);
-    let n = segments(arena);
-    let mut s: u32 = 0;
-    while s < n {
+    for s in 0..segments(arena) {
         fill_segment(arena, s, row);
-        s += 1;
     }
 }

@@ -1,11 +1,8 @@
 -- `references::beside::put_columns` meets its contract. The loop's invariant: the references of the first k blocks are put, and their wrong headers counted.
 -- Assumes nothing.
-use Prim.Native.Nat.{◌-◌, ◌≤◌}
+use Prim.Native.Nat.{◌≤◌}
 use Rattle.references.specs.Beside.{InColumns}
 use Rattle.references.proofs.beside.put_columns.Given as goal
 
 abbrev pub invariant-loop-k : goal.invariant-loop-k
-invariant-loop-k l = (l.k ≤ 32) × (l.wrong ≤ l.k) × InColumns l.class l.words l.size l.initial.refs l.m l.k l.refs l.wrong
-
-abbrev pub decreases-loop-k : goal.decreases-loop-k
-decreases-loop-k l = 32 - l.k
+invariant-loop-k l = (l.wrong ≤ l.k) × InColumns l.class l.words l.size l.k l.rest l.wrong

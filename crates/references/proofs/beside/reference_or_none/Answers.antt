@@ -7,16 +7,16 @@ use Rattle.model.specs.View.{r_in, reference_in}
 use Rattle.references.specs.Beside.{reference_or_none}
 use Rattle.references.proofs.beside.reference_or_none.Goals as goal
 
-pub returns-then-f-wide : goal.returns-then-f-wide
+pub returns-then-f-header_r : goal.returns-then-f-header_r
 unfolding reference_or_none
-returns-then-f-wide c =
+returns-then-f-header_r c =
     let a = c.args in
     ap (λ (t : Bool). cond t (reference_in a.block.now a.f) 0)
-    (sym (lt-ltb a.f (r_in a.block.now) (omega (arith, c.wide.ensures, c.header_r.ensures))))
+    (sym (lt-ltb a.f (r_in a.block.now) (omega (arith, c.header_r.ensures))))
 
-pub returns-else-f-wide : goal.returns-else-f-wide
+pub returns-else-f-header_r : goal.returns-else-f-header_r
 unfolding reference_or_none
-returns-else-f-wide c =
+returns-else-f-header_r c =
     let a = c.args in
     ap (λ (t : Bool). cond t (reference_in a.block.now a.f) 0)
-    (sym (le-ltb a.f (r_in a.block.now) (omega (arith, c.wide.ensures, c.header_r.ensures))))
+    (sym (le-ltb a.f (r_in a.block.now) (omega (arith, c.header_r.ensures))))

@@ -9,10 +9,10 @@ use Rattle.references.proofs.gather.header_right.Goals as goal
 
 pub returns-then-class_of-class : goal.returns-then-class_of-class
 unfolding header_right
-returns-then-class_of-class c = rw (ne_eqb _ _ (λ e. c.if-class_of-class.true (c.class_of.ensures ∙ ap class_of c.header_n-n.ensures ∙ e)))
-
-pub returns : goal.returns
-unfolding header_right
-returns c =
+returns-then-class_of-class c =
     let n = c.header_n-n.ensures in
-    rw (eq-eqb _ _ (sym (c.class_of.ensures ∙ ap class_of n) ∙ c.if-class_of-class.false)) (ap₂ leb c.header_r.ensures n)
+    rw (eq-eqb _ _ (sym (c.class_of.ensures ∙ ap class_of n) ∙ c.if-class_of-class.true)) (ap₂ leb c.header_r.ensures n)
+
+pub returns-else-class_of-class : goal.returns-else-class_of-class
+unfolding header_right
+returns-else-class_of-class c = rw (ne_eqb _ _ (λ e. c.if-class_of-class.false (c.class_of.ensures ∙ ap class_of c.header_n-n.ensures ∙ e))) (ne_eqb _ _ c.if-class_of-class.false)

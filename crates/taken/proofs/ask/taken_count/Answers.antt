@@ -1,41 +1,30 @@
--- `taken::ask::taken_count` meets its contract. The loop's invariant: the ones of the first o words are counted.
+-- `taken::ask::taken_count` meets its contract: the ones of its words are the bits of the row, and fewer than a word can count.
 -- Assumes nothing.
-use Prim.Native.Nat.{ℕ, ◌+◌, ◌-◌, ◌*◌}
-use native.Mathlib.Omega.{arith}
-use mathlib.Core.Path.{◌≡◌, ap, ap₂, sym, ◌∙◌}
-use borrow.Author.Rules.{rules}
+use Rattle.std.proofs.Common.{rules, arith, ◌≡◌, ℕ, ◌+◌, ◌-◌, ◌*◌, ◌^◌, ◌<◌, slice_range, sum_by, ap, ◌∙◌}
 use Rattle.model.specs.Below.{count_below}
-use Rattle.model.specs.Word.{word, bit}
+use Rattle.model.specs.Word.{bit}
 use Rattle.laws.proofs.Below.{count_below_le}
 use Rattle.arena.specs.Rows.{row_bit}
-use Rattle.taken.proofs.RowLaws.{count_word}
+use Rattle.taken.proofs.RowLaws.{count_words}
 use Rattle.taken.proofs.ask.taken_count.Goals as goal
+use Rattle.taken.proofs.ask.taken_count.Goals.{Start}
 
-pub loop-o-init : goal.loop-o-init
-unfolding count_below
-loop-o-init c = search rules
-
-pub overflow_add-count : goal.overflow_add-count
-overflow_add-count c =
+-- the ones of the words of n segments
+all_ones : (c : Start) → sum_by (λ w. count_below 32 (bit w)) (slice_range c.args.row.now 1 (1 + 64 * c.args.n)) ≡ count_below (2048 * c.args.n) (λ x. row_bit c.args.row.now (x + 1))
+all_ones c =
     let row = c.args.row.now in
-    let o = c.loop-o.o in
-    omega (arith, c.ones-count.ensures, count_below_le 32 (bit (word row o)), count_below_le (32 * (o - 1)) (λ x. row_bit row (x + 1)))
+    let n = 64 * c.args.n in
+    let cut : 1 + n - 1 ≡ n = omega arith in
+    let all : 32 * n ≡ 2048 * c.args.n = omega arith in
+    rw cut (count_words row n (omega arith) ∙ ap (λ (m : ℕ). count_below m (λ x. row_bit row (x + 1))) all)
 
-pub loop-o-preserved : goal.loop-o-preserved
-loop-o-preserved c =
-    let row = c.args.row.now in
-    let o = c.loop-o.o in
-    let here : 1 + (o - 1) ≡ o = omega arith in
-    let next : o - 1 + 1 ≡ o + 1 - 1 = omega arith in (
-      search rules,
-      omega arith,
-      search rules,
-      ap₂ ◌+◌ c.loop-o.invariant.3 (c.ones-count.ensures ∙ ap (λ (p : ℕ). count_below 32 (bit (word row p))) (sym here))
-          ∙ sym (count_word row (o - 1)) ∙ ap (λ (p : ℕ). count_below (32 * p) (λ x. row_bit row (x + 1))) next,
-    )
+pub sum-requires-clause-fits : goal.sum-requires-clause-fits
+sum-requires-clause-fits c =
+    let few : sum_by (λ w. count_below 32 (bit w)) (slice_range c.args.row.now 1 (1 + 64 * c.args.n)) < 2 ^ 32 =
+    omega (arith, all_ones (goal.at.sum-requires-clause-fits c).Start, count_below_le (2048 * c.args.n) (λ x. row_bit c.args.row.now (x + 1))) in
+    search rules
 
 pub returns : goal.returns
 returns c =
-    let a = c.args in
-    let end : 32 * (c.loop-o.o - 1) ≡ 2048 * a.n = omega arith in
-    c.loop-o.invariant.3 ∙ ap (λ (x : ℕ). count_below x (λ y. row_bit a.row.now (y + 1))) end
+    let e : c.sum.result ≡ sum_by (λ w. count_below 32 (bit w)) (slice_range c.args.row.now 1 (1 + 64 * c.args.n)) = search rules in
+    e ∙ all_ones (goal.at.returns c).Start

@@ -1,8 +1,8 @@
 -- `taken::row::fill_segment` meets its contract: a segment in the pool has no taken block, and one of a class those of its limit and its bits.
 -- Assumes nothing.
-use Prim.Native.Nat.{ℕ, ◌+◌, ◌*◌, ◌≤◌}
+use Prim.Native.Nat.{ℕ, ◌+◌, ◌≤◌}
 use native.Mathlib.Omega.{arith}
-use mathlib.Core.Path.{◌≡◌, ap, ap₂, ◌∙◌, sym}
+use mathlib.Core.Path.{◌≡◌, refl, ap, ap₂, ◌∙◌, sym}
 use mathlib.Core.Bool.{true, false}
 use mathlib.Core.List.{List}
 use lib.ListN.{length}
@@ -53,7 +53,7 @@ fill_words-requires c =
       record_long = ap length c.record_of-rec.ensures ∙ record_long a.arena.now a.s p.classed.long p.there;
       long = p.filled.long;
       some = omega arith;
-      room = omega (arith, p.classed.few, p.there, c.wide.ensures);
+      room = omega (arith, p.classed.few, p.there);
       most = omega (arith, c.blocks-2.ensures, ap blocks c.class-class.ensures, few (goal.at.fill_words-requires c).Else-class-eq0);
     }
 
@@ -64,7 +64,7 @@ returns c =
     let same = c.class-class.ensures in
     let limit = c.limit_of in
     let all = c.blocks-2.ensures ∙ ap blocks same in
-    filled_step p c.fill_words.ensures (ap (λ (x : ℕ). 1 + 64 * x) c.wide.ensures) all (omega (arith, all, few (goal.at.returns c).Else-class-eq0))
+    filled_step p c.fill_words.ensures refl all (omega (arith, all, few (goal.at.returns c).Else-class-eq0))
     (λ j l.
     ap₂ (λ (rec : List ℕ) (n : ℕ). taken_word (word rec (1 + j)) limit.result n j) c.record_of-rec.ensures all
     ∙ member_word a.arena.now a.s limit.result j p.there (used (goal.at.returns c).Else-class-eq0) limit.ensures l)
