@@ -11,7 +11,8 @@ use words::bits::with_bit;
 // Sets one bit of one level, and says whether its word is full now.
 fn set_level_bit(rec: &mut [u32], level: u32, k: u32) -> bool
     requires { BitOf rec.old level 0 k }
-    ensures { (rec.new ≡ with_level_bit rec.old level k) × (result ≡ full (word rec.new (level_at level + k / 32))) }
+    ensures added { rec.new ≡ with_level_bit rec.old level k }
+    ensures filled { result ≡ full (word rec.new (level_at level + k / 32)) }
 {
     let at = word_at(level, k / 32);
     let w = with_bit(rec[at], k % 32);

@@ -14,7 +14,7 @@ pub fn ones_in(ws: &[u32]) -> u32
     requires { length ws.now ≤ 64 }
     ensures { result ≡ sum_below (length ws.now) (λ j. count_below 32 (bit (word ws.now j))) }
 {
-    ws.iter().map(|w| ones(*w)).sum()
+    ws.iter().map(|&w| ones(w)).sum()
 }
 
 // The first n bits of a word, and 0 behind them.

@@ -52,7 +52,8 @@ impl<'a> Level<'a> {
     // The first free bit at or after b in word j, 32 where there is none, as words::bits::first_free promises.
     fn free_in(self, j: u32, b: u32) -> u32
         requires { (j < level_room self.level) × (b ≤ 32) }
-        ensures { (result ≡ first_from b (32 - b) (λ x. not (bit (word self.entry.rec.now (level_at self.entry.level + j)) x))) × (result ≤ 32) }
+        ensures { (result ≡ first_from b (32 - b) (λ x. not (bit (word self.entry.rec.now (level_at self.entry.level + j)) x)))
+            × (result ≤ 32) }
     {
         first_free_bit(self.rec[word_at(self.level, j)], b)
     }
