@@ -11,7 +11,7 @@ use native.Mathlib.Decide.{dec_lt}
 use lib.Dec.{eqb, ltb}
 use lib.ListN.{length, get_or, take, drop, length-append, length-drop, get_or-append}
 use lib.Seq.{get_or-take, get_or-drop, get_or-append-add, length-take-le, take_all, take_at}
-use borrow.Author.Tests.{eqb-true, ltb-true, ltb-false}
+use borrow.Author.Tests.{eqb-true, ltb-false}
 use Rattle.model.specs.Below.{lists_below}
 use Rattle.model.specs.Word.{put}
 use Rattle.model.specs.View.{segments, block, r_in, reference_in}
@@ -20,7 +20,7 @@ use Rattle.model.specs.Sound.{sound}
 use Rattle.model.specs.Ways.{In, drawing}
 use Rattle.laws.proofs.Below.{all_below_at, count_below_le, lists_below_ext, length_words_below, word_words_below}
 use Rattle.laws.proofs.Splice.{drop_put, length_put}
-use Rattle.soundness.proofs.Tests.{or_cases, and_left}
+use Rattle.soundness.proofs.Tests.{or_cases}
 use Rattle.soundness.proofs.Facts.{sound_facts}
 use Rattle.ways.proofs.Put.{put_all, put_all_from, put_all_blocks, put_all_distinct, put_all_length, put_all_take}
 use Rattle.ways.proofs.Trace.{Inv, fields, start, traced}
@@ -192,10 +192,7 @@ module _ {ws list : List ℕ} {head tail : ℕ} {marks row : List ℕ} (t : Turn
 
 -- ---- the whole
 
--- what `goes_on` tells
-pub went_on : (head tail most : ℕ) (t : Bool) → t ≡ (ltb head tail && ltb tail most) → t ≡ true → head < tail
-went_on head tail most t e y = ltb-true head tail (and_left (ltb head tail) (ltb tail most) (sym e ∙ y))
-
+-- what `goes_on` tells at the end
 pub ended : (head tail most : ℕ) (t : Bool) → t ≡ (ltb head tail && ltb tail most) → t ≡ false → (tail ≤ head) ⊎ (most ≤ tail)
 ended head tail most t e n = go (ltb head tail) refl (ltb tail most) refl (sym e ∙ n)
   where
@@ -244,20 +241,6 @@ module _ {ws roots list : List ℕ} {head tail : ℕ} {list' marks' : List ℕ} 
   unfolding taken_count
   so_far_tail =
       omega (arith, so_far_most, count_below_le (2048 * segments ws) (λ x. is_taken ws (x + 1)), (sound_facts ws right).size.few)
-
-  -- a turn
-  pub so_far_turn : (row : List ℕ) → head < tail → taken_count ws ≤ length list' → 1 + 64 * segments ws ≤ length marks' → 1023 ≤ length row →
-      Turn ws list' head tail marks' row
-  so_far_turn row l room marks_long row_long = record {
-    right = right;
-    some = l;
-    within = s.on.within;
-    room = room;
-    long = marks_long;
-    wide = row_long;
-    its_list = s.its_list;
-    its_marks = s.on.marks;
-  }
 
   pub so_far_longer : {head' tail' : ℕ} {list'' marks'' : List ℕ} → Turned ws list' head tail head' tail' list'' marks'' → tail ≤ tail'
   so_far_longer {head'} {tail'} {list''} {marks''} t =

@@ -1,7 +1,7 @@
 -- `trace::trace` meets its contract. Assumes nothing.
 use native.Mathlib.Omega.{arith}
 use Rattle.soundness.proofs.Facts.{sound_facts}
-use Rattle.trace.proofs.TraceLaws.{trace_roots, trace_start, so_far_tail, so_far_turn, so_far_longer, so_far_on, so_far_done, went_on, ended}
+use Rattle.trace.proofs.TraceLaws.{trace_roots, trace_start, so_far_tail, so_far_longer, so_far_on, so_far_done, ended}
 use Rattle.trace.proofs.trace.Goals as goal
 
 pub segments-requires : goal.segments-requires
@@ -12,19 +12,6 @@ put_roots-tail-requires c = trace_roots c.requires c.segments.ensures
 
 pub loop-row-init : goal.loop-row-init
 loop-row-init c = (omega arith, trace_start c.requires (rw c.segments.ensures at c.put_roots-tail.ensures))
-
-pub turn-queue-requires : goal.turn-queue-requires
-turn-queue-requires c =
-    let l = c.loop-row in
-    let p = c.put_roots-tail in
-    so_far_turn c.requires.right l.invariant.1 l.row (went_on l.queue.head l.queue.tail c.args.most c.goes_on.result c.goes_on.ensures c.loop-row-test.true)
-    (omega (arith, c.requires.room, p.auto)) (omega (arith, c.requires.row, p.auto)) (omega arith)
-
-pub loop-row-smaller : goal.loop-row-smaller
-loop-row-smaller c =
-    let l = c.loop-row in
-    let t = c.turn-queue.ensures in
-    omega (arith, t.more, t.within, l.invariant.1.on.within)
 
 pub loop-row-preserved : goal.loop-row-preserved
 loop-row-preserved c =
