@@ -11,7 +11,7 @@ use native.Mathlib.Decide.{dec_lt}
 use lib.Dec.{eqb, ltb}
 use lib.ListN.{length, get_or, take, drop, length-append, length-drop, get_or-append}
 use lib.Seq.{get_or-take, get_or-drop, get_or-append-add, length-take-le, take_all, take_at}
-use borrow.Author.Tests.{eqb-true, ltb-true, ltb-false}
+use borrow.Author.Tests.{eqb-true, ltb-false}
 use Rattle.model.specs.Below.{lists_below}
 use Rattle.model.specs.Word.{put}
 use Rattle.model.specs.View.{segments, block, r_in, reference_in}
@@ -20,13 +20,12 @@ use Rattle.model.specs.Sound.{sound}
 use Rattle.model.specs.Ways.{In, drawing}
 use Rattle.laws.proofs.Below.{all_below_at, count_below_le, lists_below_ext, length_words_below, word_words_below}
 use Rattle.laws.proofs.Splice.{drop_put, length_put}
-use Rattle.soundness.proofs.Tests.{or_cases, and_left}
+use Rattle.soundness.proofs.Tests.{or_cases}
 use Rattle.soundness.proofs.Facts.{sound_facts}
 use Rattle.ways.proofs.Put.{put_all, put_all_from, put_all_blocks, put_all_distinct, put_all_length, put_all_take}
 use Rattle.ways.proofs.Trace.{Inv, fields, start, traced}
 use Rattle.ways.proofs.Run.{gathered, advance_run}
 use Rattle.ways.proofs.Arena.{references, drawing_bounded, fields_of_taken, taken_position, taken_count_most}
-use Rattle.arena.specs.Rows.{Marked}
 use Rattle.trace.specs.Gather.{references_of, Queued, Gathered}
 use Rattle.trace.specs.List.{On, Roots, Handles, Kept}
 use Rattle.trace.specs.Trace.{Traceable, Traced, Listed, Turn, Turned}
@@ -116,12 +115,12 @@ queue_at list head tail k l =
 queue_length : (list : List ℕ) (head tail : ℕ) → tail ≤ length list → length (take (tail - head) (drop head list)) ≡ tail - head
 queue_length list head tail l = length-take-le (tail - head) (drop head list) (rw (length-drop head list) (omega arith))
 
-module _ {ws : List ℕ} {N : ℕ} {list : List ℕ} {head tail : ℕ} {marks row : List ℕ} (t : Turn ws N list head tail marks row) where
+module _ {ws list : List ℕ} {head tail : ℕ} {marks row : List ℕ} (t : Turn ws list head tail marks row) where
   -- its blocks are taken
-  pub turn_queue : Queued ws N (take (tail - head) (drop head list))
-  turn_queue = record {
+  pub turn_queue : {n : ℕ} → n ≡ segments ws → Queued ws n (take (tail - head) (drop head list))
+  turn_queue all = record {
     right = t.right;
-    all = t.all;
+    all = all;
     taken = λ k l.
         let u : k < tail - head = omega (arith, queue_length list head tail t.within) in
         rw (queue_at list head tail k u) (t.its_list.taken (head + k) (omega (arith, length-take-le tail list t.within)));
@@ -133,14 +132,14 @@ module _ {ws : List ℕ} {N : ℕ} {list : List ℕ} {head tail : ℕ} {marks ro
 
     gathered_known : Known ws (take end row')
     gathered_known =
-        rw g.words (references_known ws (λ i. get_or (take (tail - head) (drop head list)) i 0) blocks t.right (λ k l. turn_queue.taken k (omega (arith, g.within))))
+        rw g.words (references_known ws (λ i. get_or (take (tail - head) (drop head list)) i 0) blocks t.right (λ k l. (turn_queue refl).taken k (omega (arith, g.within))))
 
     -- each of the gathered handles has its place in the marks
-    gathered_small : (k : ℕ) → k < end → get_or row' k 0 ≤ 2048 * N
+    gathered_small : (k : ℕ) → k < end → get_or row' k 0 ≤ 2048 * segments ws
     gathered_small k l =
         let u : k < length (take end row') = rw (length-take-le end row' g.fits) l in
         let small = known_small ws (get_or (take end row') k 0) (gathered_known k u) in
-        omega (arith, small, get_or-take end row' k 0 l, t.all)
+        omega (arith, small, get_or-take end row' k 0 l)
 
     pub turn_handles : Handles row' end marks
     turn_handles = record {
@@ -157,7 +156,7 @@ module _ {ws : List ℕ} {N : ℕ} {list : List ℕ} {head tail : ℕ} {marks ro
 
     module _ {kept : ℕ} {row'' marks' : List ℕ} (same : length row'' ≡ length row') (k : Kept row' end marks kept row'' marks') where
       all_on : take tail list ++ take kept row'' ≡ put_all (take tail list) (take end row')
-      all_on = k.words N (take tail list) gathered_small t.its_marks
+      all_on = k.words (segments ws) (take tail list) gathered_small t.its_marks
 
       lengths : tail + kept ≡ length (put_all (take tail list) (take end row'))
       lengths =
@@ -169,12 +168,12 @@ module _ {ws : List ℕ} {N : ℕ} {list : List ℕ} {head tail : ℕ} {marks ro
       pub turn_room : tail + kept ≤ length list
       turn_room = omega (arith, lengths, listed_room ws _ (listed_more ws (take tail list) (take end row') t.its_list gathered_known), t.room)
 
-      pub turn_done : {list' : List ℕ} → list' ≡ put list tail (take kept row'') → Turned ws N list head tail (head + blocks) (tail + kept) list' marks'
+      pub turn_done : {list' : List ℕ} → list' ≡ put list tail (take kept row'') → Turned ws list head tail (head + blocks) (tail + kept) list' marks'
       turn_done {list'} e = record {
         more = omega (arith, g.some (omega (arith, queue_length list head tail t.within, t.some)));
         within = omega (arith, few, t.some);
-        on = subst (λ (n : ℕ). On N (put_all (take tail list) (gathered (references_of ws) (take tail list) head n)) list (tail + kept) list' marks') back
-            (subst (λ (hs : List ℕ). On N (put_all (take tail list) hs) list (tail + kept) list' marks') gathered_is on_it);
+        on = subst (λ (n : ℕ). On (segments ws) (put_all (take tail list) (gathered (references_of ws) (take tail list) head n)) list (tail + kept) list' marks') back
+            (subst (λ (hs : List ℕ). On (segments ws) (put_all (take tail list) hs) list (tail + kept) list' marks') gathered_is on_it);
       }
         where
           back : blocks ≡ head + blocks - head
@@ -183,20 +182,17 @@ module _ {ws : List ℕ} {N : ℕ} {list : List ℕ} {head tail : ℕ} {marks ro
           size : length (take kept row'') ≡ kept
           size = length-take-le kept row'' (omega (arith, k.within, g.fits))
 
-          on_it : On N (put_all (take tail list) (take end row')) list (tail + kept) list' marks'
+          on_it : On (segments ws) (put_all (take tail list) (take end row')) list (tail + kept) list' marks'
           on_it = record {
             within = rw (e, length_put list tail (take kept row'') (omega (arith, size, turn_room))) turn_room;
             first = rw (e, ← append_assoc) (take_at (take tail list ++ take kept row'') _ (tail + kept) (ap length all_on ∙ sym lengths)) ∙ all_on;
             later = rw e (drop_put list tail (take kept row'') (tail + kept) t.within (omega (arith, size)));
-            marks = k.marked N (take tail list) gathered_small t.its_marks;
+            marks = k.marked (segments ws) (take tail list) gathered_small t.its_marks;
           }
 
 -- ---- the whole
 
--- what `goes_on` tells
-pub went_on : (head tail most : ℕ) (t : Bool) → t ≡ (ltb head tail && ltb tail most) → t ≡ true → head < tail
-went_on head tail most t e y = ltb-true head tail (and_left (ltb head tail) (ltb tail most) (sym e ∙ y))
-
+-- what `goes_on` tells at the end
 pub ended : (head tail most : ℕ) (t : Bool) → t ≡ (ltb head tail && ltb tail most) → t ≡ false → (tail ≤ head) ⊎ (most ≤ tail)
 ended head tail most t e n = go (ltb head tail) refl (ltb tail most) refl (sym e ∙ n)
   where
@@ -206,13 +202,12 @@ ended head tail most t e n = go (ltb head tail) refl (ltb tail most) refl (sym e
     go false p b q z = inl (ltb-false head tail p)
 
 -- the list so far, with the head of the queue
-pub record SoFar (ws roots list : List ℕ) (N head tail : ℕ) (list' marks' : List ℕ) : Type 0 where
-  pub all : N ≡ segments ws
-  pub on : On N (take tail list') list tail list' marks'
+pub record SoFar (ws roots list : List ℕ) (head tail : ℕ) (list' marks' : List ℕ) : Type 0 where
+  pub on : On (segments ws) (take tail list') list tail list' marks'
   pub its_list : Listed ws (take tail list')
   pub inv : Inv (drawing ws roots) (take tail list') head
 
-module _ {ws roots list marks : List ℕ} {most : ℕ} (a : Traceable ws roots list marks most) {N : ℕ} (all : N ≡ segments ws) where
+module _ {ws roots list marks : List ℕ} {most : ℕ} (a : Traceable ws roots list marks most) where
   all_known : Known ws roots
   all_known = all_below_at (length roots) (λ p. none_or_taken ws (get_or roots p 0)) a.right_roots
 
@@ -221,22 +216,21 @@ module _ {ws roots list marks : List ℕ} {most : ℕ} (a : Traceable ws roots l
       let v : k < p = omega (arith, length-take-le p roots l) in
       rw (get_or-take p roots k 0 v) (all_known k (omega arith))
 
-  pub trace_roots : Roots N roots list marks
-  trace_roots = record {
+  pub trace_roots : {n : ℕ} → n ≡ segments ws → Roots n roots list marks
+  trace_roots all = record {
     long = omega (arith, a.row, all);
     inside = λ p l. omega (arith, known_small ws (get_or roots p 0) (all_known p l), all);
     room = λ p l. omega (arith, listed_room ws _ (listed_more ws [] (take p roots) (listed_none ws) (some_known p l)), a.room);
   }
 
-  pub trace_start : {c : ℕ} {list' marks' : List ℕ} → On N (put_all [] roots) list c list' marks' → SoFar ws roots list' N 0 c list' marks'
+  pub trace_start : {c : ℕ} {list' marks' : List ℕ} → On (segments ws) (put_all [] roots) list c list' marks' → SoFar ws roots list' 0 c list' marks'
   trace_start {c} {list'} {marks'} o = record {
-    all = all;
     on = record { within = o.within; first = refl; later = refl; marks = rw o.first o.marks };
     its_list = rw o.first (listed_more ws [] roots (listed_none ws) all_known);
     inv = rw o.first (start (drawing ws roots));
   }
 
-module _ {ws roots list : List ℕ} {N head tail : ℕ} {list' marks' : List ℕ} (right : sound ws ≡ true) (s : SoFar ws roots list N head tail list' marks') where
+module _ {ws roots list : List ℕ} {head tail : ℕ} {list' marks' : List ℕ} (right : sound ws ≡ true) (s : SoFar ws roots list head tail list' marks') where
   long : length (take tail list') ≡ tail
   long = length-take-le tail list' s.on.within
 
@@ -248,25 +242,10 @@ module _ {ws roots list : List ℕ} {N head tail : ℕ} {list' marks' : List ℕ
   so_far_tail =
       omega (arith, so_far_most, count_below_le (2048 * segments ws) (λ x. is_taken ws (x + 1)), (sound_facts ws right).size.few)
 
-  -- a turn
-  pub so_far_turn : (row : List ℕ) → head < tail → taken_count ws ≤ length list' → 1 + 64 * N ≤ length marks' → 1023 ≤ length row →
-      Turn ws N list' head tail marks' row
-  so_far_turn row l room marks_long row_long = record {
-    right = right;
-    all = s.all;
-    some = l;
-    within = s.on.within;
-    room = room;
-    long = marks_long;
-    wide = row_long;
-    its_list = s.its_list;
-    its_marks = s.on.marks;
-  }
-
-  pub so_far_longer : {head' tail' : ℕ} {list'' marks'' : List ℕ} → Turned ws N list' head tail head' tail' list'' marks'' → tail ≤ tail'
+  pub so_far_longer : {head' tail' : ℕ} {list'' marks'' : List ℕ} → Turned ws list' head tail head' tail' list'' marks'' → tail ≤ tail'
   so_far_longer {head'} {tail'} {list''} {marks''} t =
       let hs : List ℕ = gathered (references_of ws) (take tail list') head (head' - head) in
-      omega (arith, long, put_all_length (take tail list') hs, on_length N (put_all (take tail list') hs) list' tail' list'' marks'' t.on)
+      omega (arith, long, put_all_length (take tail list') hs, on_length (segments ws) (put_all (take tail list') hs) list' tail' list'' marks'' t.on)
 
   -- the references of the n blocks from the head on, put on
   module _ (n : ℕ) (few : head + n ≤ tail) where
@@ -286,12 +265,11 @@ module _ {ws roots list : List ℕ} {N head tail : ℕ} {list' marks' : List ℕ
         (λ i l. fields_of_taken ws roots (get_or (take tail list') (head + i) 0) (taken i l)))
         (advance_run (drawing_bounded ws roots) s.inv n (omega (arith, long)))
 
-  pub so_far_on : {head' tail' : ℕ} {list'' marks'' : List ℕ} → Turned ws N list' head tail head' tail' list'' marks'' →
-      SoFar ws roots list N head' tail' list'' marks''
+  pub so_far_on : {head' tail' : ℕ} {list'' marks'' : List ℕ} → Turned ws list' head tail head' tail' list'' marks'' →
+      SoFar ws roots list head' tail' list'' marks''
   so_far_on {head'} {tail'} {list''} {marks''} t = record {
-    all = s.all;
-    on = subst (λ (M : List ℕ). On N M list tail' list'' marks'') (sym t.on.first)
-        (on_then N L (put_all L (more n few)) list tail list' marks' tail' list'' marks'' (put_all_length L (more n few)) s.on t.on);
+    on = subst (λ (M : List ℕ). On (segments ws) M list tail' list'' marks'') (sym t.on.first)
+        (on_then (segments ws) L (put_all L (more n few)) list tail list' marks' tail' list'' marks'' (put_all_length L (more n few)) s.on t.on);
     its_list = rw t.on.first (listed_more ws L (more n few) s.its_list (more_known n few));
     inv = rw t.on.first (subst (λ (q : ℕ). Inv (drawing ws roots) (put_all L (more n few)) q) there (more_inv n few));
   }
@@ -322,15 +300,15 @@ module _ {ws roots list : List ℕ} {N head tail : ℕ} {list' marks' : List ℕ
       (subst (λ (q : ℕ). Inv (drawing ws roots) (put_all (take tail list') (more n few)) q) at_end (more_inv n few))
 
   -- the end, for the list as it was before the roots were put on
-  pub so_far_done : {before : List ℕ} {c : ℕ} {marks : List ℕ} → On N (put_all [] roots) before c list marks → c ≤ tail → (tail ≤ head) ⊎ (taken_count ws ≤ tail) →
+  pub so_far_done : {before : List ℕ} {c : ℕ} {marks : List ℕ} → On (segments ws) (put_all [] roots) before c list marks → c ≤ tail → (tail ≤ head) ⊎ (taken_count ws ≤ tail) →
       length list' ≡ length before → Traced ws roots before tail list' marks'
   so_far_done {before} {c} {marks} o l end same = record {
     same_length = same;
     within = omega (arith, s.on.within);
     listing = traced (drawing_bounded ws roots) (so_far_whole end);
-    later = (on_then N (put_all [] roots) (take tail list') before c list marks tail list' marks' longer o s.on).later;
-    marked = subst (λ (M : ℕ). Marked M marks' (take tail list')) s.all s.on.marks;
+    later = (on_then (segments ws) (put_all [] roots) (take tail list') before c list marks tail list' marks' longer o s.on).later;
+    marked = s.on.marks;
   }
     where
       longer : length (put_all [] roots) ≤ length (take tail list')
-      longer = omega (arith, on_length N (put_all [] roots) before c list marks o, long)
+      longer = omega (arith, on_length (segments ws) (put_all [] roots) before c list marks o, long)

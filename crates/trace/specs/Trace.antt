@@ -38,19 +38,18 @@ pub record Listed (ws L : List ℕ) : Type 0 where
   pub taken : (k : ℕ) → k < length L → is_taken ws (get_or L k 0) ≡ true
 
 -- the queue is what stands in the list from the head to the tail
-pub record Turn (ws : List ℕ) (N : ℕ) (list : List ℕ) (head tail : ℕ) (marks row : List ℕ) : Type 0 where
+pub record Turn (ws list : List ℕ) (head tail : ℕ) (marks row : List ℕ) : Type 0 where
   pub right : sound ws ≡ true
-  pub all : N ≡ segments ws
   pub some : head < tail
   pub within : tail ≤ length list
   pub room : taken_count ws ≤ length list
-  pub long : 1 + 64 * N ≤ length marks
+  pub long : 1 + 64 * segments ws ≤ length marks
   pub wide : 1023 ≤ length row
   pub its_list : Listed ws (take tail list)
-  pub its_marks : Marked N marks (take tail list)
+  pub its_marks : Marked (segments ws) marks (take tail list)
 
 -- the references of the blocks that were taken off have been put on
-pub record Turned (ws : List ℕ) (N : ℕ) (list : List ℕ) (head tail head' tail' : ℕ) (list' marks' : List ℕ) : Type 0 where
+pub record Turned (ws list : List ℕ) (head tail head' tail' : ℕ) (list' marks' : List ℕ) : Type 0 where
   pub more : head < head'
   pub within : head' ≤ tail
-  pub on : On N (put_all (take tail list) (gathered (references_of ws) (take tail list) head (head' - head))) list tail' list' marks'
+  pub on : On (segments ws) (put_all (take tail list) (gathered (references_of ws) (take tail list) head (head' - head))) list tail' list' marks'

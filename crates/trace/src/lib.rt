@@ -40,19 +40,12 @@ impl Queue {
 }
 
 // One turn: takes blocks off the queue, at least one, and puts on what they refer to.
-fn turn(
-    arena: &[u32],
-    n: u32,
-    queue: Queue,
-    list: &mut [u32],
-    marks: &mut [u32],
-    row: &mut [u32],
-) -> Queue
-    requires { Turn arena.now n list.old queue.head queue.tail marks.old row.old }
-    ensures { Turned arena.now n list.old queue.head queue.tail result.head result.tail list.new marks.new }
+fn turn(arena: &[u32], queue: Queue, list: &mut [u32], marks: &mut [u32], row: &mut [u32]) -> Queue
+    requires { Turn arena.now list.old queue.head queue.tail marks.old row.old }
+    ensures { Turned arena.now list.old queue.head queue.tail result.head result.tail list.new marks.new }
 {
     let Queue { head, tail } = queue;
-    let run = gather(arena, n, &list[head..tail], row);
+    let run = gather(arena, segments(arena), &list[head..tail], row);
     let kept = keep_new(row, run.end, marks);
     list[tail..tail + kept].copy_from_slice(&row[..kept]);
     Queue {
@@ -67,12 +60,11 @@ pub fn trace(arena: &[u32], roots: &[u32], list: &mut [u32], marks: &mut [u32], 
     requires { Traceable arena.now roots.now list.old marks.old most }
     ensures { Traced arena.now roots.now list.old result list.new marks.new }
 {
-    let n = segments(arena);
     let mut row = [0; 4096];
-    let tail = put_roots(n, roots, list, marks);
+    let tail = put_roots(segments(arena), roots, list, marks);
     let mut queue = Queue { head: 0, tail };
     while queue.goes_on(most) {
-        queue = turn(arena, n, queue, list, marks, &mut row);
+        queue = turn(arena, queue, list, marks, &mut row);
     }
     queue.tail as u32
 }

@@ -1,31 +1,17 @@
 -- `trace::trace` meets its contract. Assumes nothing.
 use native.Mathlib.Omega.{arith}
 use Rattle.soundness.proofs.Facts.{sound_facts}
-use Rattle.trace.proofs.TraceLaws.{trace_roots, trace_start, so_far_tail, so_far_turn, so_far_longer, so_far_on, so_far_done, went_on, ended}
+use Rattle.trace.proofs.TraceLaws.{trace_roots, trace_start, so_far_tail, so_far_longer, so_far_on, so_far_done, ended}
 use Rattle.trace.proofs.trace.Goals as goal
 
-pub segments-n-requires : goal.segments-n-requires
-segments-n-requires c =
-    omega (arith, (sound_facts c.args.arena.now c.requires.right).size.long)
+pub segments-requires : goal.segments-requires
+segments-requires c = omega (arith, (sound_facts c.args.arena.now c.requires.right).size.long)
 
 pub put_roots-tail-requires : goal.put_roots-tail-requires
-put_roots-tail-requires c = trace_roots c.requires c.segments-n.ensures
+put_roots-tail-requires c = trace_roots c.requires c.segments.ensures
 
 pub loop-row-init : goal.loop-row-init
-loop-row-init c = (omega arith, trace_start c.requires c.segments-n.ensures c.put_roots-tail.ensures)
-
-pub turn-queue-requires : goal.turn-queue-requires
-turn-queue-requires c =
-    let l = c.loop-row in
-    let p = c.put_roots-tail in
-    so_far_turn c.requires.right l.invariant.1 l.row (went_on l.queue.head l.queue.tail c.args.most c.goes_on.result c.goes_on.ensures c.loop-row-test.true)
-    (omega (arith, c.requires.room, p.auto)) (omega (arith, c.requires.row, p.auto, c.segments-n.ensures)) (omega arith)
-
-pub loop-row-smaller : goal.loop-row-smaller
-loop-row-smaller c =
-    let l = c.loop-row in
-    let t = c.turn-queue.ensures in
-    omega (arith, t.more, t.within, l.invariant.1.on.within)
+loop-row-init c = (omega arith, trace_start c.requires (rw c.segments.ensures at c.put_roots-tail.ensures))
 
 pub loop-row-preserved : goal.loop-row-preserved
 loop-row-preserved c =
@@ -41,5 +27,5 @@ pub returns : goal.returns
 returns c =
     let l = c.loop-row in
     let p = c.put_roots-tail in
-    so_far_done c.requires.right l.invariant.1 p.ensures l.invariant.0
+    so_far_done c.requires.right l.invariant.1 (rw c.segments.ensures at p.ensures) l.invariant.0
     (rw c.requires.all at (ended l.queue.head l.queue.tail c.args.most c.goes_on.result c.goes_on.ensures c.loop-row-test.false)) (omega (arith, p.auto))

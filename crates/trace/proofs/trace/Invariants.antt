@@ -7,7 +7,7 @@ use Rattle.trace.proofs.trace.Given as goal
 
 abbrev pub invariant-loop-row : goal.invariant-loop-row
 invariant-loop-row l =
-    (l.initial.queue.tail ≤ l.queue.tail) × SoFar l.arena l.roots l.initial.list l.n l.queue.head l.queue.tail l.list l.marks
+    (l.initial.queue.tail ≤ l.queue.tail) × SoFar l.arena l.roots l.initial.list l.queue.head l.queue.tail l.list l.marks
 
 abbrev pub decreases-loop-row : goal.decreases-loop-row
 decreases-loop-row l = length l.initial.list - l.queue.head

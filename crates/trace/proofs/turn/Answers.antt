@@ -3,12 +3,16 @@
 use Prim.Native.Nat.{◌+◌}
 use native.Mathlib.Omega.{arith}
 use lib.ListN.{take}
+use Rattle.soundness.proofs.Facts.{sound_facts}
 use Rattle.trace.proofs.GatherLaws.{part_copied}
 use Rattle.trace.proofs.TraceLaws.{turn_queue, turn_handles, turn_room, turn_done}
 use Rattle.trace.proofs.turn.Goals as goal
 
 pub gather-run-requires : goal.gather-run-requires
-gather-run-requires c = let t = c.requires in (turn_queue t, t.wide)
+gather-run-requires c = let t = c.requires in (turn_queue t c.segments.ensures, t.wide)
+
+pub segments-requires : goal.segments-requires
+segments-requires c = omega (arith, (sound_facts c.args.arena.now c.requires.right).size.long)
 
 pub keep_new-kept-requires : goal.keep_new-kept-requires
 keep_new-kept-requires c = turn_handles c.requires c.gather-run.ensures

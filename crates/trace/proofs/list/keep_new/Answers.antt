@@ -10,12 +10,6 @@ use Rattle.trace.proofs.list.keep_new.Goals as goal
 pub loop-k-init : goal.loop-k-init
 loop-k-init c = (λ j l. refl, kept_none c.args.row.now c.args.marks.now)
 
-pub mark-requires : goal.mark-requires
-mark-requires c =
-    let l = c.loop-k in
-    let inside = c.requires.inside l.k (omega arith) in
-    record { inside = omega (arith, l.invariant.0 l.k (le_refl l.k)) }
-
 pub loop-k-preserved : goal.loop-k-preserved
 loop-k-preserved c =
     let a = c.args in
