@@ -1,13 +1,12 @@
 -- A chain that asks a test of the numbers of a range in turn: whether all of them pass, and how many do.
 -- Assumes nothing.
-use Prim.Native.Nat.{ℕ, zero, suc, ◌+◌, ◌-◌}
+use Prim.Native.Nat.{ℕ, zero, suc, ◌+◌, ◌-◌, ◌<◌}
 use mathlib.Core.Path.{◌≡◌, refl, sym, ap, ap₂, subst, ◌∙◌}
-use mathlib.Core.List.{List, [], ◌∷◌}
+use mathlib.Core.List.{List, [], ◌∷◌, map}
 use lib.Bits.{bit_or, or_add_and, and_le_l, and_le_r}
 use lib.Dec.{eqb}
 use lib.ListN.{length}
 use borrow.Author.Tests.{eqb-true, eqb-false, eq-eqb, ne_eqb}
-use denote.Ref.{Bor}
 use mathlib.Core.Bool.{Bool, true, false, ◌&&◌, and-true, and_assoc}
 use native.Mathlib.Omega.{arith}
 use denote.Param.Members.{Mut, Called}
@@ -17,20 +16,19 @@ use Rattle.std.proofs.iter.Yields.{nat_range_steps}
 use Rattle.std.proofs.iter.runs.Sources.{range_runs, nat_range_inclusive_steps, inclusive_listed}
 use Rattle.std.specs.declared.ops.Range.{Range}
 use Rattle.std.specs.declared.ops.RangeInclusive.{RangeInclusive}
-use Rattle.std.specs.Bool.{MatchBool}
-use Rattle.std.specs.Iterator.Runs.{Run, SomeRun, ItemsCountUp, AllItemsGive, AnyItemGives, CallKeepsClosure}
-use Rattle.std.specs.declared.iter.Filter.{Filter}
-use Rattle.std.proofs.lemmas.Iterator.{YieldsList-from_range}
-use Rattle.std.proofs.lemmas.Iterator.Consumers.{YieldsList-from_filter, count_from_yields_List}
-use Rattle.std.specs.Fn.{CalledAt}
+use Rattle.std.specs.Bool.{MatchBool, ⊤}
+use Rattle.std.specs.Iterator.Runs.{Run, SomeRun, EachRunFrom, ItemsCountUp, AllItemsGive, AnyItemGives, CallKeepsClosure}
+use Rattle.std.specs.declared.iter.Map.{Map}
+use Rattle.std.proofs.lemmas.Iterator.{YieldsList, YieldsList-from_range, YieldsList-from_map, maps}
+use Rattle.std.proofs.lemmas.Iterator.Consumers.{sum_by_from_yields_List, fits_by_from_yields_list}
 use Rattle.std.specs.Iterator.{Drains}
-use Rattle.std.specs.Iterator.Adapters.{filter_source, filter_callee, filter_steps}
-use Rattle.std.specs.List.{filter, fold, range_with_len}
+use Rattle.std.specs.Iterator.Adapters.{map_source, map_callee}
+use Rattle.std.specs.List.{fold, range_with_len, sum_by}
 use Rattle.std.specs.Option.{option_map}
 use Rattle.std.specs.Range.{range_inclusive_start, range_inclusive_end, range_inclusive_exhausted}
 use Rattle.model.specs.Below.{all_below, count_below, one_if}
 use Rattle.model.specs.Word.{word}
-use Rattle.laws.proofs.Below.{all_below_intro, all_below_step, all_below_add, all_below_ext, all_below_fails, count_below_step, count_below_add, count_below_ext}
+use Rattle.laws.proofs.Below.{all_below_intro, all_below_step, all_below_add, all_below_ext, all_below_fails, count_below_step, count_below_add, count_below_ext, count_below_le}
 
 -- what holds of an item holds of the number that it is
 at_if : (o : Option ℕ) (P : ℕ → Type 0) (m : ℕ) → option_map (λ y. y) o ≡ Some m → IfSome o P → P m
@@ -96,24 +94,26 @@ count_first p a n =
     ap (λ (m : ℕ). count_below m (λ k. p (a + k))) size ∙ count_below_add 1 n (λ k. p (a + k))
     ∙ ap₂ ◌+◌ (one ∙ ap (λ (x : ℕ). one_if (p x)) first) (count_below_ext n (λ k. p (a + (1 + k))) (λ k. p (a + 1 + k)) (λ k _. ap p (later k)))
 
-filtered : (p : ℕ → Bool) (a n : ℕ) → length (filter p (range_with_len a n)) ≡ count_below n (λ k. p (a + k))
+-- the numbers that pass, added as ones onto m
+ones : (p : ℕ → Bool) (m a n : ℕ) → fold (λ (m x : ℕ). m + one_if (p x)) m (range_with_len a n) ≡ m + count_below n (λ k. p (a + k))
 unfolding count_below
-filtered p a zero = refl
-filtered p a (suc n) = go (p a) refl ∙ ap (λ (m : ℕ). one_if (p a) + m) (filtered p (a + 1) n) ∙ sym (count_first p a n)
-  where
-    go : (t : Bool) → p a ≡ t → length (filter p (a ∷ range_with_len (a + 1) n)) ≡ one_if (p a) + length (filter p (range_with_len (a + 1) n))
-    go true e = rw e (omega arith)
-    go false e = rw e (omega arith)
+ones p m a zero = omega arith
+ones p m a (suc n) = omega (arith, ones p (m + one_if (p a)) (a + 1) n, count_first p a n)
 
--- of the numbers below n
-pub counted : {F : Type 0} {g : Mut F (Bor ℕ × Unit {0}) Bool} {f : F} {s : Filter (Range ℕ) F} (n : ℕ) (p : ℕ → Bool) (r : ℕ)
-    → (filter_source s).start ≡ 0 → (filter_source s).end ≡ n → filter_callee s ≡ f
-    → ((xs : List ℕ) × Drains (filter_steps nat_range_steps g) s xs × (r ≡ length xs))
-    → ((x : ℕ) (t : Bool) (q : F) → CalledAt g f x t q → (q ≡ f) × (t ≡ p x)) → r ≡ count_below n p
-counted {g = g} {s = s} n p r es ee callee ran calls =
-    let whole : r ≡ length (filter p (range_with_len 0 n)) =
-    count_from_yields_List s r ran (YieldsList-from_filter g p (YieldsList-from_range 0 n n (ap₂ (λ (a b : ℕ). record { start = a; end = b }) es ee) (omega arith)) callee calls) in
-    whole ∙ filtered p 0 n ∙ count_below_ext n (λ k. p (0 + k)) p (λ k _. let same : 0 + k ≡ k = omega arith in ap p same)
+module _ {F : Type 0} {g : Mut F (ℕ × Unit {0}) ℕ} {f : F} {s : Map (Range ℕ) F} (n : ℕ) (p : ℕ → Bool) (es : (map_source s).start ≡ 0) (ee : (map_source s).end ≡ n)
+    (callee : map_callee s ≡ f) (calls : (x t : ℕ) (q : F) → Called g f (x, tt) t q → (q ≡ f) × (t ≡ one_if (p x))) where
+  gives : YieldsList (maps nat_range_steps g) (λ x. x) s (map (λ (x : ℕ). one_if (p x)) (range_with_len 0 n))
+  gives = YieldsList-from_map g (λ (x : ℕ). one_if (p x)) (YieldsList-from_range 0 n n (ap₂ (λ (a b : ℕ). record { start = a; end = b }) es ee) (omega arith)) callee calls
+
+  total : sum_by (λ (x : ℕ). one_if (p x)) (range_with_len 0 n) ≡ count_below n p
+  total = ones p 0 0 n ∙ omega (arith, count_below_ext n (λ k. p (0 + k)) p (λ k _. let same : 0 + k ≡ k = omega arith in ap p same))
+
+  -- how many of the numbers below n pass, told by a sum of ones; there are few enough for it
+  pub counted : (r : ℕ) → ((xs : List ℕ) × (⊤ → Drains (maps nat_range_steps g) s xs) × (r ≡ fold (λ a x. a + x) 0 xs)) → r ≡ count_below n p
+  counted r ran = sum_by_from_yields_List (λ (x : ℕ). one_if (p x)) (range_with_len 0 n) s r ran gives ∙ total
+
+  pub count_fits : (top : ℕ) → n < top → EachRunFrom (maps nat_range_steps g) s (λ u. fold (λ a x. a + x) 0 u.items < top)
+  count_fits top few = fits_by_from_yields_list (λ (x : ℕ). one_if (p x)) (range_with_len 0 n) s top gives (omega (arith, total, count_below_le n p))
 
 -- ---- words joined by or
 

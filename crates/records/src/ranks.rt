@@ -25,8 +25,8 @@ pub fn members(arena: &[u32], class: u32) -> u32
     ensures { result ≡ members arena.now class }
 {
     (0..segments(arena))
-        .filter(|&s| class_of(arena, s) == class)
-        .count() as u32
+        .map(|s| u32::from(class_of(arena, s) == class))
+        .sum()
 }
 
 // How many of them have that rank.
@@ -35,8 +35,8 @@ fn holders(arena: &[u32], class: u32, rank: u32) -> u32
     ensures { result ≡ holders arena.now class rank }
 {
     (0..segments(arena))
-        .filter(|&s| has_rank(arena, class, rank, s))
-        .count() as u32
+        .map(|s| u32::from(has_rank(arena, class, rank, s)))
+        .sum()
 }
 
 fn class_ranked(arena: &[u32], class: u32) -> bool
