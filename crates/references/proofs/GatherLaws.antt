@@ -26,7 +26,7 @@ use Rattle.laws.proofs.Splice.{length_part, word_part}
 use Rattle.words.proofs.ClassLaws.{class_rule, bounds_class, class_room}
 use Rattle.words.proofs.HandleLaws.{block_inside, block_in_arena}
 use Rattle.taken.specs.Row.{all_words, TakenRow}
-use Rattle.references.specs.Gather.{header_right, references_in, headed, references_of, Added, Gathered, GatheredBelow, Of, AtWord}
+use Rattle.references.specs.Gather.{header_right, references_in, headed, references_of, Copied, Added, Gathered, GatheredBelow, Of, AtWord}
 use Rattle.taken.proofs.RowLaws.{all_words_append, taken_at_inside, is_taken_at, row_bit_taken}
 
 -- ---- a test of each word of a list
@@ -64,10 +64,9 @@ longer_words words rest post {refs} {n} m (l, e) same u =
 -- ---- copying the words of a block
 
 -- one word more
-pub copied_step : (b rest : List ℕ) (f : ℕ) → take f rest ≡ part b 1 f → f + 1 < length b → f < length rest
-    → take (f + 1) (set rest f (word b (1 + f))) ≡ part b 1 (f + 1)
-copied_step b rest f c l u =
-    ap (λ (n : ℕ). take n (set rest f v)) (add-one f) ∙ take-suc-set rest f v u ∙ ap (λ (xs : List ℕ). xs ++ (v ∷ [])) c ∙ sym longer
+pub copied_step : {b rest : List ℕ} {f : ℕ} → Copied b f rest → f + 1 < length b → f < length rest → Copied b (f + 1) (set rest f (word b (1 + f)))
+copied_step {b} {rest} {f} c l u =
+    record { words = ap (λ (n : ℕ). take n (set rest f v)) (add-one f) ∙ take-suc-set rest f v u ∙ ap (λ (xs : List ℕ). xs ++ (v ∷ [])) c.words ∙ sym longer }
   where
     v : ℕ
     v = word b (1 + f)
@@ -78,8 +77,8 @@ copied_step b rest f c l u =
         ∙ ap (λ (x : ℕ). part b 1 f ++ (x ∷ [])) (get_or-drop 1 b f 0)
 
 -- fewer of them than were copied
-pub copied_less : (b rest : List ℕ) (w r : ℕ) → take w rest ≡ part b 1 w → r ≤ w → take r rest ≡ part b 1 r
-copied_less b rest w r c l = sym (take-take r w rest l) ∙ ap (take r) c ∙ take-take r w (drop 1 b) l
+pub copied_less : {b rest : List ℕ} {w : ℕ} (r : ℕ) → Copied b w rest → r ≤ w → Copied b r rest
+copied_less {b} {rest} {w} r c l = record { words = sym (take-take r w rest l) ∙ ap (take r) c.words ∙ take-take r w (drop 1 b) l }
 
 -- ---- headers
 

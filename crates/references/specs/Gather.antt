@@ -1,6 +1,6 @@
 -- What the judge gathers of a segment: whether the headers of its taken blocks are right, and the references of those blocks end to end.
 -- Assumes nothing.
-use Rattle.std.specs.Prelude.{ℕ, ◌+◌, ◌-◌, ◌*◌, ◌≤◌, ◌<◌, ◌≡◌, Bool, true, false, not, Option, MatchOption, cond, ◌&&◌, ◌||◌, List, [], ◌++◌, length, eqb, leb}
+use Rattle.std.specs.Prelude.{ℕ, ◌+◌, ◌-◌, ◌*◌, ◌≤◌, ◌<◌, ◌≡◌, Bool, true, false, not, Option, MatchOption, cond, ◌&&◌, ◌||◌, List, [], ◌++◌, length, take, eqb, leb}
 use Rattle.model.specs.Below.{all_below}
 use Rattle.model.specs.Word.{part, bit}
 use Rattle.model.specs.Class.{blocks, block_words, class_of}
@@ -35,6 +35,10 @@ unfoldable pub segment_right : List ℕ → ℕ → Bool
 segment_right ws s = in_pool ws s || all_below (blocks (class ws s)) (right_at ws s)
 
 -- ---- what one block adds to the references that are gathered already
+
+-- the first r words of those behind are the r words behind a block's header
+pub record Copied (b : List ℕ) (r : ℕ) (rest : List ℕ) : Type 0 where
+  pub words : take r rest ≡ part b 1 r
 
 -- asked for a block's r references: there is room for all its words but the header
 pub record Putting (b : List ℕ) (r room : ℕ) : Type 0 where

@@ -87,11 +87,10 @@ impl<'a> Member<'a> {
     }
 
     // The blocks of a word's set bits.
-    fn gather_bits<'r>(self, j: u32, w: u32, refs: Refs<'r>) -> Option<Refs<'r>>
+    fn gather_bits<'r>(self, j: u32, w: u32, mut refs: Refs<'r>) -> Option<Refs<'r>>
         requires { AtWord self.arena.now self.s j w refs }
         ensures { GatheredBelow self.entry.arena.now self.entry.s (32 * j + 32) result }
     {
-        let mut refs = refs;
         let mut left = w;
         while left != 0 {
             refs = self.gather_block(32 * j + left.trailing_zeros(), refs)?;
@@ -111,12 +110,11 @@ impl<'a> Member<'a> {
     }
 
     // All blocks.
-    pub fn gather<'r>(self, refs: Refs<'r>) -> Option<Refs<'r>>
+    pub fn gather<'r>(self, mut refs: Refs<'r>) -> Option<Refs<'r>>
         requires small { self.class ≤ 7 }
         requires none { refs ≡ [] }
         ensures { GatheredBelow self.entry.arena.now self.entry.s (blocks self.entry.class) result }
     {
-        let mut refs = refs;
         for j in 0..blocks(self.class).div_ceil(32) {
             let w = self.row[(1 + 64 * self.s + j) as usize];
             refs = self.gather_word(j, w, refs)?;

@@ -49,7 +49,7 @@ impl Member<'_> {
         ensures { result ≡ segment_right self.entry.arena.now self.entry.s }
     {
         match self.gather(Refs::new(words)) {
-            Some(refs) => all_none_or_taken(self.row, refs.words()),
+            Some(refs) => all_none_or_taken(self.row, refs.as_slice()),
             None => false,
         }
     }

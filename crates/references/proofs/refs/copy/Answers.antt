@@ -4,4 +4,4 @@ use Rattle.references.proofs.GatherLaws.{copied_step}
 use Rattle.references.proofs.refs.copy.Goals as goal
 
 pub loop-f-preserved : goal.loop-f-preserved
-loop-f-preserved c = copied_step c.args.block.now _ _ c.loop-f.invariant (omega arith) (omega arith)
+loop-f-preserved c = copied_step c.loop-f.invariant (omega arith) (omega arith)

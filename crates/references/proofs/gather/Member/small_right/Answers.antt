@@ -7,7 +7,7 @@ use Rattle.references.proofs.gather.Member.small_right.Goals as goal
 pub returns-in-Some : goal.returns-in-Some
 returns-in-Some c =
     let m = c.args.self in
-    judged_right m.of c.in-Some.ensures m.taken (c.all_none_or_taken.ensures ∙ ap (all_words (row_none_or_taken m.row.now)) c.words.ensures)
+    judged_right m.of c.in-Some.ensures m.taken (c.all_none_or_taken.ensures ∙ ap (all_words (row_none_or_taken m.row.now)) c.as_slice.ensures)
 
 pub returns-in-None : goal.returns-in-None
 returns-in-None c = sym (judged_wrong c.args.self.of c.in-None.ensures)

@@ -31,4 +31,4 @@ returns c =
     let n = c.self.inside.count in
     let room : c.args.r ≤ length c.put_references.new.rest = omega (arith, p.inside, p.enough, c.put_references.auto.rest, first_words words c.self.invariant c.self.view_is, words_behind words n c.self.invariant) in
     longer_words words c.put_references.new.rest (drop (4096 - n) (drop n words)) c.args.r c.self.invariant c.self.view_is room
-    ∙ ap (λ (xs : List ℕ). c.args.self ++ xs) c.put_references.ensures
+    ∙ ap (λ (xs : List ℕ). c.args.self ++ xs) c.put_references.ensures.words
