@@ -17,10 +17,10 @@ fn marked_record(rec: &mut [u32], head: u32, marks: &[u32])
 {
     if head == 0 {
         rec.fill(0);
-        return;
+    } else {
+        rec[0] = head;
+        write_levels(rec, record_class(head), marks);
     }
-    rec[0] = head;
-    write_levels(rec, record_class(head), marks);
 }
 
 fn write_record(arena: &mut [u32], s: u32, head: u32, marks: &[u32])
