@@ -10,7 +10,8 @@ use crate::levels::write_levels;
 use arena::segments;
 use words::fields::record_class;
 
-// "Segments with count 0 go to the pool": their whole record is 0. Any other has its head, and the levels of its marks.
+// "Segments with count 0 go to the pool": their whole record is 0, the head as well. Any other has its head, and the levels of its
+// marks.
 fn marked_record(rec: &mut [u32], head: u32, marks: &[u32])
     requires { MarkedRecord rec.old head marks.now }
     ensures { rec.new ≡ marked_record head marks.now }
