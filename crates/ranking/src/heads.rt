@@ -22,9 +22,10 @@ impl Keyed {
     {
         let own = self.keys[s as usize];
         if key_group(own) == Group::Pool as u32 {
-            return 0;
+            0
+        } else {
+            record_head(key_class(own), self.new_rank(own), lives[s as usize])
         }
-        record_head(key_class(own), self.new_rank(own), lives[s as usize])
     }
 
     // The heads of the new records.

@@ -31,12 +31,12 @@ fn put_word(rec: &mut [u32], class: u32, j: u32, w: u32)
 {
     let at = (1 + j) as usize;
     let both = rec[at] | w;
-    if both == 0xFFFF_FFFF {
+    if both == u32::MAX {
         rec[at] = both - 1;
         set_bit(rec, class, 32 * j);
-        return;
+    } else {
+        rec[at] = both;
     }
-    rec[at] = both;
 }
 
 // All levels of a record of that class.

@@ -16,12 +16,12 @@ fn place_for(class: u32, full: u32, m: u32) -> u32
     ensures { result ≡ place_for class full m }
 {
     if m == 0 {
-        return place(0, 0);
+        place(0, 0)
+    } else if full < m {
+        place(full, 0)
+    } else {
+        place(m - 1, blocks(class))
     }
-    if full < m {
-        return place(full, 0);
-    }
-    place(m - 1, blocks(class))
 }
 
 impl Keyed {

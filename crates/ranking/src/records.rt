@@ -10,17 +10,18 @@ use crate::levels::write_levels;
 use arena::segments;
 use words::fields::record_class;
 
-// "Segments with count 0 go to the pool": their whole record is 0. Any other has its head, and the levels of its marks.
+// "Segments with count 0 go to the pool": their whole record is 0, the head as well. Any other has its head, and the levels of its
+// marks.
 fn marked_record(rec: &mut [u32], head: u32, marks: &[u32])
     requires { MarkedRecord rec.old head marks.now }
     ensures { rec.new ≡ marked_record head marks.now }
 {
     if head == 0 {
         rec.fill(0);
-        return;
+    } else {
+        rec[0] = head;
+        write_levels(rec, record_class(head), marks);
     }
-    rec[0] = head;
-    write_levels(rec, record_class(head), marks);
 }
 
 fn write_record(arena: &mut [u32], s: u32, head: u32, marks: &[u32])

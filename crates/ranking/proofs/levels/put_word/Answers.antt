@@ -49,10 +49,10 @@ returns-then-both c =
     c.set_bit.ensures
     ∙ put_full a.rec.now a.class a.j a.w c.requires c.ranges.w.fits _ c.if-both.true (omega (arith, c.if-both.true)) _ (omega arith)
 
-pub bounds-rec-at-2 : goal.bounds-rec-at-2
-bounds-rec-at-2 c = omega (arith, c.requires.long, within (goal.at.bounds-rec-at-2 c).Start)
+pub bounds-rec-at-else-both : goal.bounds-rec-at-else-both
+bounds-rec-at-else-both c = omega (arith, c.requires.long, within (goal.at.bounds-rec-at-else-both c).Start)
 
-pub returns : goal.returns
-returns c =
+pub returns-else-both : goal.returns-else-both
+returns-else-both c =
     let a = c.args in
     put_some a.rec.now a.class a.j a.w c.requires c.ranges.w.fits c.if-both.false

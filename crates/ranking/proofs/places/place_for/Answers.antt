@@ -14,14 +14,14 @@ pub returns-then-full-m : goal.returns-then-full-m
 unfolding place_for
 returns-then-full-m c = c.place-then-full-m.ensures ∙ simp (ne_eqb _ _ c.if-m-eq0.false, lt-ltb _ _ c.if-full-m.true)
 
-pub place-requires-2 : goal.place-requires-2
-place-requires-2 c =
+pub place-requires-else-full-m : goal.place-requires-else-full-m
+place-requires-else-full-m c =
     let p = c.requires in
     let a = c.args in
-    omega (arith, p.few, c.blocks-2.ensures, blocks_most a.class (bounds_class a.class p.low p.high))
+    omega (arith, p.few, c.blocks-else-full-m.ensures, blocks_most a.class (bounds_class a.class p.low p.high))
 
-pub returns : goal.returns
+pub returns-else-full-m : goal.returns-else-full-m
 unfolding place_for
-returns c =
-    c.place-2.ensures
-    ∙ simp (ne_eqb _ _ c.if-m-eq0.false, le-ltb _ _ c.if-full-m.false, c.blocks-2.ensures)
+returns-else-full-m c =
+    c.place-else-full-m.ensures
+    ∙ simp (ne_eqb _ _ c.if-m-eq0.false, le-ltb _ _ c.if-full-m.false, c.blocks-else-full-m.ensures)

@@ -26,13 +26,9 @@ write_levels-requires c =
     let class : is_class (field 0 4 head) ≡ true = ⊎_elim (λ e. absurd (c.if-head-eq0.false e)) (λ t. t) c.requires.right in
     record { long = length-set c.args.rec.now 0 head ∙ c.requires.long; class = ap is_class c.record_class.ensures ∙ class; row = c.requires.row }
 
-pub shape_of-rec : goal.shape_of-rec
-shape_of-rec c =
-    c.write_levels.auto.rec ∙ length-set c.args.rec.now 0 c.args.head
-
-pub returns : goal.returns
+pub returns-else-head-eq0 : goal.returns-else-head-eq0
 unfolding marked_record
-returns c =
+returns-else-head-eq0 c =
     c.write_levels.ensures
     ∙ ap₂ ◌∷◌ (get_or-set_same c.args.rec.now 0 c.args.head 0 (omega (arith, c.requires.long)))
     (ap (λ (i : ℕ). level_rows i (mark_in c.args.marks.now)) c.record_class.ensures) ∙ simp (ne_eqb _ _ c.if-head-eq0.false)

@@ -11,9 +11,9 @@ pub returns-then-key_group : goal.returns-then-key_group
 unfolding head_by
 returns-then-key_group c = simp (eq-eqb _ _ (sym c.key_group.ensures ∙ c.if-key_group.true))
 
-pub returns : goal.returns
+pub returns-else-key_group : goal.returns-else-key_group
 unfolding head_by
-returns c =
+returns-else-key_group c =
     let a = c.args in
     let k : ℕ = word a.self.now.keys a.s in
     c.record_head.ensures
