@@ -85,8 +85,7 @@ impl<'a> Level<'a> {
         ensures { result ≡ word_of_bits (λ b. full (word (part self.entry.rec.now (level_at (self.entry.level - 1) + 32 * j) n) b)) }
     {
         let from = word_at(self.level - 1, 32 * j);
-        let to = from + n as usize;
-        full_words(&self.rec[from..to])
+        full_words(&self.rec[from..from + n as usize])
     }
 
     // The word that stands in it where it is right: the bits of the words below, ones past its end, and 0 where it uses
