@@ -15,7 +15,6 @@ use model::BlockIndex;
 use words::class::block_words;
 use words::fields::{record_class, record_count, record_rank};
 use words::handles::offset;
-use words::slices::wide;
 
 pub fn segments(arena: &[u32]) -> u32
     requires { 0 < length arena.now }
@@ -29,7 +28,7 @@ pub fn place_of(arena: &[u32], class: u32) -> u32
     requires { (11 ≤ length arena.now) × (3 ≤ class) × (class ≤ 12) }
     ensures { result ≡ word arena.now (place_at class) }
 {
-    arena[wide(class - 2)]
+    arena[(class - 2) as usize]
 }
 
 // The 68 words of a segment's record.
@@ -37,9 +36,8 @@ pub fn record_of(arena: &[u32], segment: u32) -> &[u32]
     requires { Segment arena.now segment }
     ensures { result.now ≡ record_of arena.now segment }
 {
-    let at = 11 + 68 * wide(segment);
-    let end = at + 68;
-    &arena[at..end]
+    let at = 11 + 68 * segment as usize;
+    &arena[at..at + 68]
 }
 
 // The first of them.
@@ -47,8 +45,7 @@ pub fn head_of(arena: &[u32], segment: u32) -> u32
     requires { Segment arena.now segment }
     ensures { result ≡ word (record_of arena.now segment) 0 }
 {
-    let at = 11 + 68 * wide(segment);
-    arena[at]
+    arena[11 + 68 * segment as usize]
 }
 
 pub fn class(arena: &[u32], segment: u32) -> u32
@@ -78,6 +75,5 @@ pub fn block_of(arena: &[u32], n: u32, segment: u32, class: u32, index: BlockInd
     ensures { result.now ≡ part arena.now (block_at n segment class index.0) (block_words class) }
 {
     let at = offset(n, segment, class, index).0;
-    let end = at + wide(block_words(class));
-    &arena[at..end]
+    &arena[at..at + block_words(class) as usize]
 }

@@ -20,7 +20,7 @@ use Rattle.words.proofs.ClassLaws.{class_rule}
 -- ---- the ten classes: a test that is computed for all of them, at each of three levels, holds at each
 
 pub or_right : (a b : Bool) → (a || b) ≡ true → a ≡ false → b ≡ true
-or_right true b e f = absurd (let z : ◌≡◌ {A = ℕ} 0 1 = cc in omega arith)
+or_right true b e f = cc
 or_right false b e f = e
 
 pub at_level : (p : ℕ → ℕ → Bool) → every_class (λ i. all_below 3 (p i)) ≡ true → (i l : ℕ) → is_class i ≡ true → l < 3 → p i l ≡ true
@@ -61,6 +61,9 @@ words_next i l h m u =
 pub levels_le : (i : ℕ) → is_class i ≡ true → levels i ≤ 3
 unfolding all_below count_below level_words
 levels_le i h = leb-true _ _ (class_rule (λ i. leb (levels i) 3) refl i h)
+
+pub used_one : (i l : ℕ) → is_class i ≡ true → l < levels i → l < 3
+used_one i l h u = omega (arith, levels_le i h)
 
 pub levels_pos : (i : ℕ) → is_class i ≡ true → 0 < levels i
 unfolding all_below count_below level_words

@@ -7,19 +7,29 @@ use native.Mathlib.Decide.{dec_lt, ℕ_discrete}
 use mathlib.Core.Path.{◌≡◌, refl, sym, ap, ◌∙◌}
 use mathlib.Core.Bool.{Bool, true, false, cond, not, ◌||◌, true≢false}
 use mathlib.Core.List.{List}
+use lib.ListN.{length}
 use lib.Dec.{ltb}
 use Rattle.std.specs.Prelude.{Option, Some, None, unwrap_or}
 use borrow.Author.Tests.{lt-leb, le-leb, lt-ltb, le-ltb, ltb-true, ltb-false, not-true, not-false}
 use Rattle.model.specs.Below.{first_from}
 use Rattle.model.specs.Word.{word, bit, full}
-use Rattle.model.specs.Class.{level_words, level_end, levels}
+use Rattle.model.specs.Class.{is_class, level_words, level_end, levels}
 use Rattle.model.specs.Layout.{level_at, level_room, level_word}
 use Rattle.model.specs.View.{bit_in}
+use Rattle.model.specs.Sound.{levels_right}
 use Rattle.laws.proofs.Below.{First, first_is, first_unique}
 use Rattle.laws.proofs.Bits.{full_bit, free_bit}
-use Rattle.bitmap.specs.Tree.{Search, level_bit, before_end}
-use Rattle.bitmap.proofs.LevelLaws.{level_set, level_word_lt, words_room, words_hold, words_next, levels_le, used_level, unused_level}
+use Rattle.bitmap.specs.Tree.{level_bit, before_end}
+use Rattle.bitmap.proofs.LevelLaws.{used_one, level_set, level_word_lt, words_room, words_hold, words_next, used_level, unused_level}
 use Rattle.bitmap.proofs.RecordLaws.{right_level, level_bit_is}
+
+-- a record whose levels are right, a level that its class uses, and a place that may be the level's end
+pub record Search (rec : List ℕ) (i l k : ℕ) : Type 0 where
+  pub long : length rec ≡ 68
+  pub class : is_class i ≡ true
+  pub right : levels_right i rec ≡ true
+  pub level : l < levels i
+  pub inside : k ≤ level_end i l
 
 -- the free bits of a word, and of a level
 abbrev free : ℕ → ℕ → Bool
@@ -72,7 +82,7 @@ same_level x k same e = rw (sym same.0, sym same.1, sym same.2) e
 
 module _ {rec : List ℕ} {i l k : ℕ} (s : Search rec i l k) where
   pub l<3 : l < 3
-  l<3 = omega (arith, levels_le i s.class, s.level)
+  l<3 = used_one i l s.class s.level
 
   used : 0 < level_words i l
   used = used_level i l s.class (omega (arith, s.level))
@@ -105,7 +115,7 @@ module _ {rec : List ℕ} {i l k : ℕ} (s : Search rec i l k) where
   next_bit : (j : ℕ) → suc l < levels i → j < level_words i l → level_bit rec (suc l) j ≡ full (word rec (level_at l + j))
   unfolding level_end
   next_bit j more h =
-      let l+1<3 : suc l < 3 = omega (arith, levels_le i s.class, s.level) in
+      let l+1<3 : suc l < 3 = used_one i (suc l) s.class more in
       let above : 0 < level_words i (suc l) = used_level i (suc l) s.class more in
       level_bit_is i (bit_in rec) rec (suc l) s.class l+1<3 (right_level i rec s.right (suc l) l+1<3) j
       (omega (arith, words_hold i (suc l) s.class l+1<3 above))

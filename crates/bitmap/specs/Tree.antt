@@ -2,7 +2,7 @@
 -- Assumes nothing.
 use Rattle.std.specs.Prelude.{ℕ, zero, suc, ◌+◌, ◌-◌, ◌*◌, ◌/◌, ◌%◌, ◌^◌, ◌≤◌, ◌<◌, ◌≡◌, Bool, true, cond, ◌||◌, List, ◌∷◌, length, set, replicate, eqb, ltb, Option, Some, None}
 use Rattle.model.specs.Word.{word, bit, ones, full, word_of_bits}
-use Rattle.model.specs.Class.{is_class, blocks, level_words, level_end, levels}
+use Rattle.model.specs.Class.{is_class, blocks, level_words, level_end}
 use Rattle.model.specs.Layout.{record_head, level_at, level_room}
 use Rattle.model.specs.Sound.{levels_right}
 
@@ -34,14 +34,7 @@ pub record SetBit (rec : List ℕ) (i k : ℕ) : Type 0 where
   pub right : levels_right i rec ≡ true
   pub block : k < blocks i
 
--- the same, with a level that the class uses, and a place that may be the level's end
-pub record Search (rec : List ℕ) (i l k : ℕ) : Type 0 where
-  pub long : length rec ≡ 68
-  pub class : is_class i ≡ true
-  pub right : levels_right i rec ≡ true
-  pub level : l < levels i
-  pub inside : k ≤ level_end i l
-
+-- the same, with a place that may be the number of blocks
 pub record FirstFree (rec : List ℕ) (i k : ℕ) : Type 0 where
   pub long : length rec ≡ 68
   pub class : is_class i ≡ true

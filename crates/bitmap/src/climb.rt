@@ -11,7 +11,8 @@ use words::bits::with_bit;
 // Sets one bit of one level, and says whether its word is full now.
 fn set_level_bit(rec: &mut [u32], level: u32, k: u32) -> bool
     requires { BitOf rec.old level 0 k }
-    ensures { (rec.new ≡ with_level_bit rec.old level k) × (result ≡ full (word rec.new (level_at level + k / 32))) }
+    ensures added { rec.new ≡ with_level_bit rec.old level k }
+    ensures filled { result ≡ full (word rec.new (level_at level + k / 32)) }
 {
     let at = word_at(level, k / 32);
     let w = with_bit(rec[at], k % 32);
@@ -19,16 +20,14 @@ fn set_level_bit(rec: &mut [u32], level: u32, k: u32) -> bool
     w == u32::MAX
 }
 
-// Sets a bit and climbs to the next of the levels that are left only when the word has become full.
+// Sets a bit and climbs to the next of the levels that are left only when the word has become full. A type that holds the
+// parameters would be no plainer: one function makes them, and one other takes them.
 fn climb(rec: &mut [u32], level: u32, left: u32, k: u32)
     requires { BitOf rec.old level left k }
     ensures { rec.new ≡ climbed left level k rec.old }
 {
-    let full = set_level_bit(rec, level, k);
-    if full {
-        if 0 < left {
-            climb(rec, level + 1, left - 1, k / 32);
-        }
+    if set_level_bit(rec, level, k) && 0 < left {
+        climb(rec, level + 1, left - 1, k / 32);
     }
 }
 

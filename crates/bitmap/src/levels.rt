@@ -6,6 +6,7 @@ ghost use Rattle.bitmap.specs.Tree.{ClassLevel};
 
 use words::class::{blocks, level_words};
 
+// Where a level begins in a record.
 fn level_at(level: u32) -> usize
     requires { level < 3 }
     ensures { result ≡ level_at level }
@@ -36,6 +37,7 @@ pub fn level_end(class: u32, level: u32) -> u32
     }
 }
 
+// How many levels a class uses.
 pub fn levels(class: u32) -> u32
     requires { is_class class ≡ true }
     ensures { result ≡ levels class }

@@ -49,7 +49,7 @@ impl<'a> Level<'a> {
         })
     }
 
-    // The first free bit at or after b in word j, 32 where there is none.
+    // The first free bit at or after b in word j, 32 where there is none, as words::bits::first_free promises.
     fn free_in(self, j: u32, b: u32) -> u32
         requires { (j < level_room self.level) × (b ≤ 32) }
         ensures { (result ≡ first_from b (32 - b) (λ x. not (bit (word self.entry.rec.now (level_at self.entry.level + j)) x))) × (result ≤ 32) }
@@ -77,7 +77,8 @@ impl<'a> Level<'a> {
     }
 }
 
-// The first free block at or after k, and the number of blocks where there is none. k may be that number.
+// The first free block at or after k, and the number of blocks where there is none, since docs/STATEMENTS.md names that
+// number. k may be it.
 pub fn first_free(rec: &[u32], class: u32, k: u32) -> u32
     requires { FirstFree rec.now class k }
     ensures { result ≡ first_from k (blocks class - k) (λ j. not (bit_in rec.now j)) }

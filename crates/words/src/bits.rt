@@ -25,7 +25,7 @@ pub fn ones_from(n: u32) -> u32
     u32::MAX.unbounded_shl(n)
 }
 
-// The first bit at or after b that is 0, and 32 where there is none.
+// The first bit at or after b that is 0, and 32 where there is none, since docs/STATEMENTS.md names that number.
 pub fn first_free(w: u32, b: u32) -> u32
     requires { b ≤ 32 }
     ensures { result ≡ first_from b (32 - b) (λ j. not (bit w j)) }

@@ -1,12 +1,20 @@
 // Packed words: the head of the arena, a place, the head of a record, and the header of a block.
 //
 // "Fields in a word are packed most significant first; bits not named are 0."
-ghost use Rattle.std.specs.Prelude.{◌≡◌, ◌<◌, length};
+ghost use Rattle.std.specs.Prelude.{◌≡◌, ◌+◌, ◌<◌, ◌≤◌, length};
 ghost use Rattle.model.specs.Word.{field};
 ghost use Rattle.model.specs.Layout.{arena_head, place_word, record_head, header_word};
 ghost use Rattle.model.specs.Standing.{shape_in};
 
 use model::Shape;
+
+// The field of SIZE bits behind the first BEFORE bits of a word.
+fn field<const BEFORE: u32, const SIZE: u32>(w: u32) -> u32
+    requires { (0 < SIZE) × (SIZE < 32) × (BEFORE + SIZE ≤ 32) }
+    ensures { result ≡ field BEFORE SIZE w }
+{
+    (w >> (32 - (BEFORE + SIZE))) % (1 << SIZE)
+}
 
 // Word 0 of an arena of n segments.
 pub fn arena_head(n: u32) -> u32
@@ -20,7 +28,7 @@ pub fn arena_head(n: u32) -> u32
 pub fn segments(w: u32) -> u32
     ensures { result ≡ field 0 8 w }
 {
-    w >> 24
+    field::<0, 8>(w)
 }
 
 // The allocation place of a class: a rank, and an index in the segment of that rank.
@@ -34,13 +42,13 @@ pub fn place(rank: u32, index: u32) -> u32
 pub fn place_rank(w: u32) -> u32
     ensures { result ≡ field 0 8 w }
 {
-    w >> 24
+    field::<0, 8>(w)
 }
 
 pub fn place_index(w: u32) -> u32
     ensures { result ≡ field 8 12 w }
 {
-    (w >> 12) % 4096
+    field::<8, 12>(w)
 }
 
 // The first word of a segment's record.
@@ -54,19 +62,19 @@ pub fn record_head(class: u32, rank: u32, count: u32) -> u32
 pub fn record_class(w: u32) -> u32
     ensures { result ≡ field 0 4 w }
 {
-    w >> 28
+    field::<0, 4>(w)
 }
 
 pub fn record_rank(w: u32) -> u32
     ensures { result ≡ field 4 8 w }
 {
-    (w >> 20) % 256
+    field::<4, 8>(w)
 }
 
 pub fn record_count(w: u32) -> u32
     ensures { result ≡ field 12 12 w }
 {
-    (w >> 8) % 4096
+    field::<12, 12>(w)
 }
 
 // The header of a block of that shape.
@@ -80,19 +88,19 @@ pub fn header(s: Shape) -> u32
 pub fn header_n(w: u32) -> u32
     ensures { result ≡ field 0 12 w }
 {
-    w >> 20
+    field::<0, 12>(w)
 }
 
 pub fn header_r(w: u32) -> u32
     ensures { result ≡ field 12 12 w }
 {
-    (w >> 8) % 4096
+    field::<12, 12>(w)
 }
 
 pub fn header_tag(w: u32) -> u8
     ensures { result ≡ field 24 8 w }
 {
-    (w % 256) as u8
+    field::<24, 8>(w) as u8
 }
 
 // The shape that a block's own words give: the first of them is its header.

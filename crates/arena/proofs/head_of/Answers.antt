@@ -10,6 +10,6 @@ use Rattle.arena.proofs.head_of.Goals as goal
 pub returns : goal.returns
 unfolding record_of
 returns c =
-    let a = c.args in
-    let at : 11 + 68 * a.segment + 0 ≡ 11 + 68 * c.wide.result = omega (arith, c.wide.ensures) in
-    sym (word_part a.arena.now (11 + 68 * a.segment) 68 0 (omega arith) ∙ ap (word a.arena.now) at)
+    let at = 11 + 68 * c.args.segment in
+    let first : at + 0 ≡ at = omega arith in
+    sym (word_part c.args.arena.now at 68 0 (omega arith) ∙ ap (word c.args.arena.now) first)

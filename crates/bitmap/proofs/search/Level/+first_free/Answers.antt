@@ -6,10 +6,9 @@ use borrow.Author.Rules.{rules}
 use Rattle.std.specs.Prelude.{Some, None}
 use Rattle.model.specs.Class.{level_end, levels}
 use Rattle.model.specs.Layout.{level_room}
-use Rattle.bitmap.specs.Tree.{Search}
 use Rattle.bitmap.specs.declared.search.Level.{Level}
 use Rattle.bitmap.proofs.LevelLaws.{level_inside}
-use Rattle.bitmap.proofs.SearchLaws.{l<3, own_room, higher, first_bit, same_level, at_end, in_word, no_level, none_above, room_above, found_above}
+use Rattle.bitmap.proofs.SearchLaws.{Search, l<3, own_room, higher, first_bit, same_level, at_end, in_word, no_level, none_above, room_above, found_above}
 use Rattle.bitmap.proofs.search.Level.+first_free.Goals as goal
 use Rattle.bitmap.proofs.search.Level.+first_free.Goals.{Else-k-end, In_ok-next}
 

@@ -7,11 +7,11 @@ use mathlib.Core.Bool.{Bool, not}
 use Rattle.model.specs.Below.{first_from}
 use Rattle.model.specs.Word.{word, bit}
 use Rattle.laws.proofs.Below.{first_is}
-use Rattle.bitmap.proofs.LevelLaws.{levels_le}
+use Rattle.bitmap.proofs.LevelLaws.{used_one}
 use Rattle.bitmap.proofs.search.Level.free_in.Goals as goal
 
 pub word_at-requires : goal.word_at-requires
-word_at-requires c = let s = c.args.self in (omega (arith, s.used, levels_le s.class s.classed), c.requires.0)
+word_at-requires c = let s = c.args.self in (used_one s.class s.level s.classed s.used, c.requires.0)
 
 pub returns : goal.returns
 returns c =
