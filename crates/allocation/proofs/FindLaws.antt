@@ -23,7 +23,7 @@ use Rattle.bitmap.specs.Tree.{FirstFree}
 use Rattle.allocation.specs.Spots.{Whole, Search, FreeAt, FindsFree, Joining, Finds, below}
 use Rattle.allocation.specs.declared.find.Spot.{Spot}
 use Rattle.allocation.specs.declared.find.Found.TheVariants.{Here, Joins}
-use Rattle.allocation.proofs.LoopLaws.{below_some, below_none}
+use Rattle.allocation.proofs.ChainLaws.{below_some, below_none}
 use Rattle.allocation.proofs.FirstLaws.{none_earlier, first_at_place, first_behind, some_behind, has_at, segment_at, rank_at, index_at, has_none}
 
 -- ---- what the search asks of the functions that it calls

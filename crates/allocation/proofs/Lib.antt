@@ -1,4 +1,4 @@
-pub mod LoopLaws
+pub mod ChainLaws
 pub mod FirstLaws
 pub mod FindLaws
 pub mod GiveLaws

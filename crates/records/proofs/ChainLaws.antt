@@ -1,4 +1,5 @@
--- A chain that asks a test of the numbers of a range in turn: whether all of them pass, and how many do.
+-- A chain that asks a test of the numbers of a range in turn: whether all of them pass, and how many do. And words joined by or, and a row of
+-- tests.
 -- Assumes nothing.
 use Prim.Native.Nat.{ℕ, zero, suc, ◌+◌, ◌-◌, ◌<◌}
 use mathlib.Core.Path.{◌≡◌, refl, sym, ap, ap₂, subst, ◌∙◌}
@@ -6,8 +7,8 @@ use mathlib.Core.List.{List, [], ◌∷◌, map}
 use lib.Bits.{bit_or, or_add_and, and_le_l, and_le_r}
 use lib.Dec.{eqb}
 use lib.ListN.{length}
-use borrow.Author.Tests.{eqb-true, eqb-false, eq-eqb, ne_eqb}
-use mathlib.Core.Bool.{Bool, true, false, ◌&&◌, and-true, and_assoc}
+use borrow.Author.Tests.{not-true, eqb-true, eqb-false, eq-eqb, ne_eqb}
+use mathlib.Core.Bool.{Bool, true, false, not, ◌&&◌, and-true, and_assoc}
 use native.Mathlib.Omega.{arith}
 use denote.Param.Members.{Mut, Called}
 use Rattle.std.proofs.Common.{Option, Some, None, IfSome, IsSomeAnd}
@@ -144,3 +145,9 @@ joined_onto (w ∷ ws) a =
 
 pub joined : (ws : List ℕ) → eqb (fold bit_or 0 ws) 0 ≡ all_below (length ws) (λ j. eqb (word ws j) 0)
 joined ws = joined_onto ws 0
+
+-- ---- a row of tests
+
+-- one that has failed decides
+pub stops : {a t : Bool} (b : Bool) → t ≡ a → not t ≡ true → false ≡ (a && b)
+stops {a} {t} b e f = ap (λ (x : Bool). x && b) (sym (sym e ∙ not-true t f))

@@ -148,6 +148,13 @@ module _ (rec : List ℕ) (words end : ℕ) (h : LowestOf rec words end) (fits :
 
 -- ---- levels
 
+-- the room of the levels above level 0
+pub room_is : (l : ℕ) → 1 ≤ l → l < 3 → 3 - l ≡ level_room l
+room_is zero up few = absurd (omega arith)
+room_is (suc zero) up few = refl
+room_is (suc (suc zero)) up few = refl
+room_is (suc (suc (suc l))) up few = absurd (omega arith)
+
 -- level 0 of a class ends inside a record, and not before it has begun
 pub blocks_bounds : (i : ℕ) → is_class i ≡ true → (1 ≤ blocks i) × (blocks i ≤ 2048)
 unfolding all_below

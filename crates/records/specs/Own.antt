@@ -1,6 +1,6 @@
 -- The levels of a record, told by its own words: each level by the level below it, and level 0 by itself.
 -- Assumes nothing.
-use Rattle.std.specs.Prelude.{ℕ, zero, suc, ◌+◌, ◌-◌, ◌*◌, ◌≤◌, ◌<◌, ◌≡◌, Bool, List, length, eqb}
+use Rattle.std.specs.Prelude.{ℕ, zero, suc, ◌+◌, ◌*◌, ◌≤◌, ◌<◌, ◌≡◌, Bool, List, length, eqb}
 use Rattle.model.specs.Below.{all_below}
 use Rattle.model.specs.Word.{word, full}
 use Rattle.model.specs.Layout.{level_at, level_room, padded_word}
@@ -29,30 +29,3 @@ pub record LowestOf (rec : List ℕ) (words end : ℕ) : Type 0 where
   pub some : 1 ≤ words
   pub room : words ≤ 64
   pub begin : 32 * words < end + 32
-
--- a level above it, with room for so many words: it has no bits but for the words for which the level below has room
-pub record LevelOf (rec : List ℕ) (l words end room : ℕ) : Type 0 where
-  pub long : length rec ≡ 68
-  pub above : 1 ≤ l
-  pub level : l < 3
-  pub begin : 32 * words < end + 32
-  pub below : end ≤ level_room (l - 1)
-  pub all : room ≡ level_room l
-
--- word j of such a level
-pub record WordOf (rec : List ℕ) (l words end j : ℕ) : Type 0 where
-  pub long : length rec ≡ 68
-  pub above : 1 ≤ l
-  pub level : l < 3
-  pub begin : 32 * words < end + 32
-  pub below : end ≤ level_room (l - 1)
-  pub inside : j < level_room l
-
--- n of the words below level l, from word 32 j on
-pub record WordsBelow (rec : List ℕ) (l j n : ℕ) : Type 0 where
-  pub long : length rec ≡ 68
-  pub above : 1 ≤ l
-  pub level : l < 3
-  pub some : 1 ≤ n
-  pub few : n ≤ 32
-  pub inside : 32 * j + n ≤ level_room (l - 1)

@@ -6,10 +6,10 @@
 ghost use Rattle.std.specs.Prelude.{◌≡◌, cond, ◌&&◌, ◌||◌, ◌+◌, ◌-◌, ◌*◌, ◌<◌, ◌≤◌, min, eqb, leb, ltb, length};
 ghost use Rattle.model.specs.Word.{word, part, bit, full, word_of_bits};
 ghost use Rattle.model.specs.Class.{words_for};
-ghost use Rattle.model.specs.Layout.{level_at};
+ghost use Rattle.model.specs.Layout.{level_at, level_room};
 ghost use Rattle.model.specs.Sound.{levels_right};
 ghost use Rattle.bitmap.specs.Tree.{OfClass};
-ghost use Rattle.records.specs.Own.{own_word, word_right, level_right, LowestOf, LevelOf, WordOf, WordsBelow};
+ghost use Rattle.records.specs.Own.{own_word, word_right, level_right, LowestOf};
 
 use crate::zero::zero;
 use bitmap::levels::word_at;
@@ -64,42 +64,56 @@ fn full_words(ws: &[u32]) -> u32
     w
 }
 
-// Which of the n words from word 32 j on, one level below, are full.
-fn full_below(rec: &[u32], level: u32, j: u32, n: u32) -> u32
-    requires { WordsBelow rec.now level j n }
-    ensures { result ≡ word_of_bits (λ b. full (word (part rec.now (level_at (level - 1) + 32 * j) n) b)) }
-{
-    let from = word_at(level - 1, 32 * j);
-    let to = from + n as usize;
-    full_words(&rec[from..to])
+// A level above level 0: it has so many words, and as many bits as the level below has words.
+#[derive(Clone, Copy)]
+struct Level<'a> {
+    rec: &'a [u32],
+    level: u32,
+    words: u32,
+    end: u32,
+    ghost long: { length rec.now ≡ 68 },
+    ghost above: { 1 ≤ level },
+    ghost used: { level < 3 },
+    ghost begin: { 32 * words < end + 32 },
+    ghost below: { end ≤ level_room (level - 1) },
 }
 
-// The word that stands in a right level above level 0: the bits of the words below, ones past the level's end, and 0 where
-// the level uses no such word.
-fn own_word(rec: &[u32], level: u32, words: u32, end: u32, j: u32) -> u32
-    requires { WordOf rec.now level words end j }
-    ensures { result ≡ own_word words end rec.now level j }
-{
-    if words <= j {
-        return 0;
+impl<'a> Level<'a> {
+    // Which of the n words from word 32 j on, one level below, are full.
+    fn full_below(self, j: u32, n: u32) -> u32
+        requires { (1 ≤ n) × (n ≤ 32) × (32 * j + n ≤ level_room (self.level - 1)) }
+        ensures { result ≡ word_of_bits (λ b. full (word (part self.entry.rec.now (level_at (self.entry.level - 1) + 32 * j) n) b)) }
+    {
+        let from = word_at(self.level - 1, 32 * j);
+        full_words(&self.rec[from..from + n as usize])
     }
-    let n = bits_in(end, j);
-    full_below(rec, level, j, n) | ones_from(n)
-}
 
-fn word_right(rec: &[u32], level: u32, words: u32, end: u32, j: u32) -> bool
-    requires { WordOf rec.now level words end j }
-    ensures { result ≡ word_right words end rec.now level j }
-{
-    rec[word_at(level, j)] == own_word(rec, level, words, end, j)
-}
+    // The word that stands in it where it is right: the bits of the words below, ones past its end, and 0 where it uses
+    // no such word.
+    fn own_word(self, j: u32) -> u32
+        requires { j < level_room self.level }
+        ensures { result ≡ own_word self.entry.words self.entry.end self.entry.rec.now self.entry.level j }
+    {
+        if self.words <= j {
+            return 0;
+        }
+        let n = bits_in(self.end, j);
+        self.full_below(j, n) | ones_from(n)
+    }
 
-// All words for which a level above level 0 has room.
-fn level_right(rec: &[u32], level: u32, words: u32, end: u32, room: u32) -> bool
-    requires { LevelOf rec.now level words end room }
-    ensures { result ≡ level_right words end rec.now level }
-{
-    (0..room).all(|j| word_right(rec, level, words, end, j))
+    fn word_right(self, j: u32) -> bool
+        requires { j < level_room self.level }
+        ensures { result ≡ word_right self.entry.words self.entry.end self.entry.rec.now self.entry.level j }
+    {
+        self.rec[word_at(self.level, j)] == self.own_word(j)
+    }
+
+    // All words for which it has room: level 1 for two, and level 2 for one.
+    fn right(self) -> bool
+        ensures { result ≡ level_right self.entry.words self.entry.end self.entry.rec.now self.entry.level }
+    {
+        (0..3 - self.level).all(|j| self.word_right(j))
+    }
 }
 
 // Level 0: the padding of its last used word, and zeros behind.
@@ -122,7 +136,17 @@ pub fn levels_right(rec: &[u32], class: u32) -> bool
     let words = words_for(end);
     let above = words_above(words);
     let top = words_above(above);
-    lowest_right(rec, words, end)
-        && level_right(rec, 1, above, words, 2)
-        && level_right(rec, 2, top, above, 1)
+    let level_1 = Level {
+        rec,
+        level: 1,
+        words: above,
+        end: words,
+    };
+    let level_2 = Level {
+        rec,
+        level: 2,
+        words: top,
+        end: above,
+    };
+    lowest_right(rec, words, end) && level_1.right() && level_2.right()
 }

@@ -5,8 +5,11 @@
 // A later clause may ask of its caller what the earlier ones have shown: the length, then the classes. The judge of
 // them all asks nothing. What it leaves of `sound` is that the taken blocks are right (proofs/RecordsLaws, sound_is).
 //
+// Each clause is a function of the slice alone, whose contract is the clause: a type that keeps what the clauses before it
+// have shown would stand beside each as a second function, and say no more.
+//
 // No word is copied. A clause over segments or classes goes through them in turn and leaves at the first that fails
-// (proofs/LoopLaws). The levels of a record are judged by its own words, each level by the level below it
+// (proofs/ChainLaws). The levels of a record are judged by its own words, each level by the level below it
 // (proofs/OwnLaws).
 #![tactic(auto)]
 

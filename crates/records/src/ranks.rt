@@ -1,6 +1,7 @@
 // Ranks: the m segments of a class have the ranks 0 to m - 1, each once.
 //
 // There are at most 64 segments, so each rank is looked for among all of them, and nothing has to be kept.
+// What is counted is a sum of ones: it has no branch and runs over several segments at a time, which a filter does not.
 ghost use Rattle.std.specs.Prelude.{◌≡◌};
 ghost use Rattle.model.specs.View.{members};
 ghost use Rattle.model.specs.Sound.{ranks};

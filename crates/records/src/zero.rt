@@ -1,6 +1,6 @@
 // Words that are to be 0: the record of a segment in the pool, and the words of level 0 that a class does not use.
 //
-// All of them are read, and judged once behind the loop: so the loop runs over several words at a time.
+// All of them are joined by or, and judged once: so the fold runs over several words at a time. An `all` would stop at each.
 ghost use Rattle.std.specs.Prelude.{◌≡◌, eqb, length};
 ghost use Rattle.model.specs.Below.{all_below};
 ghost use Rattle.model.specs.Word.{word};

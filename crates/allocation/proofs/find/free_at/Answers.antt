@@ -2,7 +2,7 @@
 use mathlib.Core.Path.{◌≡◌, refl, sym, ◌∙◌}
 use native.Mathlib.Omega.{arith}
 use Rattle.model.specs.View.{ranked}
-use Rattle.allocation.proofs.LoopLaws.{below_some, below_none}
+use Rattle.allocation.proofs.ChainLaws.{below_some, below_none}
 use Rattle.allocation.proofs.FindLaws.{whole, ranked_there, segment_ranked, free_asked, free_is, free_inside}
 use Rattle.allocation.proofs.find.free_at.Goals as goal
 use Rattle.allocation.proofs.find.free_at.Goals.{In_ok-segment}

@@ -3,7 +3,7 @@ use Rattle.std.proofs.Common.{◌≡◌, true, false, rules, tests}
 use Rattle.std.proofs.lemmas.Iterator.{first_from_Range}
 use Rattle.model.specs.Standing.{in_pool}
 use Rattle.model.specs.Calls.{first_pool}
-use Rattle.allocation.proofs.LoopLaws.{first_found}
+use Rattle.allocation.proofs.ChainLaws.{first_found}
 use Rattle.allocation.proofs.pool.first_pool.Goals as goal
 
 pub returns : goal.returns

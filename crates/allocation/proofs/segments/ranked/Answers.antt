@@ -3,7 +3,7 @@ use Rattle.std.proofs.Common.{◌≡◌, true, false, rules, tests}
 use Rattle.std.proofs.lemmas.Iterator.{first_from_Range}
 use Rattle.model.specs.View.{ranked}
 use Rattle.records.specs.Judged.{has_rank}
-use Rattle.allocation.proofs.LoopLaws.{first_found}
+use Rattle.allocation.proofs.ChainLaws.{first_found}
 use Rattle.allocation.proofs.segments.ranked.Goals as goal
 
 pub returns : goal.returns

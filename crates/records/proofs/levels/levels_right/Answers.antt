@@ -21,8 +21,8 @@ levels c =
 pub words_for-words-requires : goal.words_for-words-requires
 words_for-words-requires c = omega (arith, blocks_bounds c.args.class c.requires.class, c.blocks-end.ensures)
 
-pub returns-then-level_right : goal.returns-then-level_right
-returns-then-level_right c = rw (← levels (goal.at.returns-then-level_right c).After-words_above-top) (search rules)
+pub returns-then-right : goal.returns-then-right
+returns-then-right c = rw (← levels (goal.at.returns-then-right c).After-words_above-top) (search rules)
 
-pub returns-else-level_right : goal.returns-else-level_right
-returns-else-level_right c = rw (← levels (goal.at.returns-else-level_right c).After-words_above-top) (search rules)
+pub returns-else-right : goal.returns-else-right
+returns-else-right c = rw (← levels (goal.at.returns-else-right c).After-words_above-top) (search rules)
