@@ -12,5 +12,6 @@ returns c =
     let m = c.args.self in
     let p = right_at m.arena.now m.s in
     let n = c.blocks-2.result in
-    let all = all_from_yields_List p _ _ c.all.result c.all.ensures.ran (YieldsList-from_range 0 n n refl (omega arith)) (λ x b q k. search (rules, tests)) in
-    large_judged m.of (all ∙ range_all_below p n ∙ ap (λ (x : ℕ). all_below x p) c.blocks-2.ensures)
+    large_judged m.of
+    (all_from_yields_List p _ _ _ c.all.ensures.ran (YieldsList-from_range 0 n n refl (omega arith)) (λ x b q k. search (rules, tests))
+    ∙ range_all_below p n ∙ ap (λ (x : ℕ). all_below x p) c.blocks-2.ensures)
