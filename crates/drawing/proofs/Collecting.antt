@@ -4,16 +4,15 @@ use native.Mathlib.Omega.{arith}
 use mathlib.Core.Path.{◌≡◌, refl, sym, ap, ◌∙◌}
 use mathlib.Core.Bool.{Bool, false, ◌||◌}
 use mathlib.Core.List.{List, [], ◌∷◌}
+use Rattle.std.specs.Prelude.{Ok}
 use lib.ListN.{length, get_or, take}
 use lib.Dec.{eqb}
 use borrow.Author.Tests.{eqb-false, ne_eqb}
 use Rattle.model.specs.Below.{all_below}
 use Rattle.model.specs.Standing.{none_or_taken, taken_count}
 use Rattle.model.specs.Ways.{listed}
-use Rattle.model.specs.Numbers.{collected_paper}
+use Rattle.model.specs.Numbers.{Collected, collected_paper}
 use Rattle.model.specs.Calls.{collect_refusal, Granted, Collect}
-use Rattle.model.specs.declared.Collected.{Collected}
-use Rattle.model.specs.declared.Collected.TheVariants.{Live}
 use Rattle.laws.proofs.Below.{all_below_at, all_below_ext}
 use Rattle.soundness.proofs.Facts.{sound_facts}
 use Rattle.kept.proofs.Reached.{reachable_taken}
@@ -55,7 +54,7 @@ collect_refused a ws roots list k same some said = record {
 }
 
 pub collect_live : (ws roots list ws' list' : List ℕ) (c : ℕ) → collect_refusal ws roots list ≡ 0 → Granted ws roots list c ws' list'
-    → Collect ws roots list (Live c) ws' list'
+    → Collect ws roots list (Ok c) ws' list'
 collect_live ws roots list ws' list' c none g = record {
   live_count = c;
   answered = rw none;

@@ -9,9 +9,8 @@ use Rattle.model.specs.Class.{is_class}
 use Rattle.model.specs.View.{block, plain_words_in}
 use Rattle.model.specs.Standing.{is_taken}
 use Rattle.model.specs.Sound.{sound}
-use Rattle.model.specs.Numbers.{refuse, standing_values, read_paper}
+use Rattle.model.specs.Numbers.{Read, refuse, standing_values, read_paper}
 use Rattle.model.specs.Calls.{Outcome, block_refusal, PlainWords}
-use Rattle.model.specs.declared.Read.{Read}
 use Rattle.model.specs.declared.Standing.{Standing}
 use Rattle.model.specs.declared.Standing.TheVariants.{None, Outside, Free, Taken}
 use Rattle.words.proofs.ClassLaws.{bounds_class}

@@ -4,45 +4,45 @@ ghost use Rattle.model.specs.Calls.{AskStanding, AskShape, AskRoom};
 use crate::look::{block, is_block_taken, standing_of};
 use crate::rooms::room_of;
 use judge::judge;
-use model::{Handle, Room, Shaped, Stood};
+use model::{Handle, Refusal, Shape, Standing};
 
-pub fn standing(arena: &[u32], h: Handle) -> Stood
+pub fn standing(arena: &[u32], h: Handle) -> Result<Standing, Refusal>
     ensures { AskStanding arena.now h.0 result arena.now }
 {
     let mut row = [0u32; 8192];
     if !judge(arena, &mut row) {
-        return Stood::Unsound;
+        return Err(Refusal::Unsound);
     }
-    Stood::Is(standing_of(arena, &row, h))
+    Ok(standing_of(arena, &row, h))
 }
 
 // The n, r and tag of a taken block.
-pub fn shape(arena: &[u32], h: Handle) -> Shaped
+pub fn shape(arena: &[u32], h: Handle) -> Result<Shape, Refusal>
     ensures { AskShape arena.now h.0 result arena.now }
 {
     let mut row = [0u32; 8192];
     if !judge(arena, &mut row) {
-        return Shaped::Unsound;
+        return Err(Refusal::Unsound);
     }
     if !is_block_taken(arena, &row, h) {
-        return Shaped::NoBlock;
+        return Err(Refusal::NoBlock);
     }
-    Shaped::Is(words::fields::shape(block(arena, h)))
+    Ok(words::fields::shape(block(arena, h)))
 }
 
 // How many untaken blocks the segments of a class have.
-pub fn room(arena: &[u32], class: u32) -> Room
+pub fn room(arena: &[u32], class: u32) -> Result<u32, Refusal>
     ensures { AskRoom arena.now class result arena.now }
 {
     let mut row = [0u32; 8192];
     if !judge(arena, &mut row) {
-        return Room::Unsound;
+        return Err(Refusal::Unsound);
     }
     if class < 3 {
-        return Room::BadShape;
+        return Err(Refusal::BadShape);
     }
     if 12 < class {
-        return Room::BadShape;
+        return Err(Refusal::BadShape);
     }
-    Room::Blocks(room_of(arena, &row, class))
+    Ok(room_of(arena, &row, class))
 }

@@ -6,7 +6,7 @@ ghost use Rattle.drawing.specs.Refusal.{CollectRefusal};
 
 use arena::segments;
 use judge::judge;
-use model::Collected;
+use model::Refusal;
 use ranking::rank_anew;
 use taken::ask::{all_none_or_taken, taken_count};
 use trace::trace;
@@ -61,19 +61,19 @@ fn refusal(arena: &[u32], roots: &[u32], room: usize) -> Verdict
 
 // Lists the reachable blocks in drawing order and frees the others. All that may refuse is asked before any
 // word is altered.
-pub fn collect(arena: &mut [u32], roots: &[u32], list: &mut [u32]) -> Collected
+pub fn collect(arena: &mut [u32], roots: &[u32], list: &mut [u32]) -> Result<u32, Refusal>
     ensures { Collect arena.old roots.now list.old result arena.new list.new }
 {
     let e = refusal(arena, roots, list.len());
     if e.number == 2 {
-        return Collected::Unsound;
+        return Err(Refusal::Unsound);
     }
     if e.number == 8 {
-        return Collected::BadRoot;
+        return Err(Refusal::BadRoot);
     }
     if e.number == 9 {
-        return Collected::ShortList;
+        return Err(Refusal::ShortList);
     }
     let mut marks = [0u32; 4097];
-    Collected::Live(collect_sound(arena, roots, list, &mut marks, e.taken))
+    Ok(collect_sound(arena, roots, list, &mut marks, e.taken))
 }

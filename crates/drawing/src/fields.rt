@@ -6,7 +6,7 @@ ghost use Rattle.model.specs.Word.{put};
 ghost use Rattle.model.specs.View.{n_in, r_in, reference_in, plain_in, plain_words_in};
 ghost use Rattle.drawing.specs.Fields.{Fitting, PlainOf, field_read};
 
-use model::Read;
+use model::Refusal;
 use words::fields::{header_n, header_r, shape};
 use words::slices::wide;
 
@@ -34,25 +34,25 @@ pub fn plain_at(block: &[u32], f: u32) -> u32
     1 + header_r(block[0]) + f
 }
 
-pub fn reference(block: &[u32], f: u32) -> Read
+pub fn reference(block: &[u32], f: u32) -> Result<u32, Refusal>
     requires { Fitting block.now }
     ensures { result ≡ field_read (ltb f (r_in block.now)) (reference_in block.now f) }
 {
     if has_reference(block, f) {
-        Read::Value(block[1 + wide(f)])
+        Ok(block[1 + wide(f)])
     } else {
-        Read::NoField
+        Err(Refusal::NoField)
     }
 }
 
-pub fn plain(block: &[u32], f: u32) -> Read
+pub fn plain(block: &[u32], f: u32) -> Result<u32, Refusal>
     requires { Fitting block.now }
     ensures { result ≡ field_read (ltb f (n_in block.now - r_in block.now)) (plain_in block.now f) }
 {
     if has_plain(block, f) {
-        Read::Value(block[wide(plain_at(block, f))])
+        Ok(block[wide(plain_at(block, f))])
     } else {
-        Read::NoField
+        Err(Refusal::NoField)
     }
 }
 

@@ -5,38 +5,38 @@ use crate::fields::{plain, plain_part};
 use crate::look::{block, has_plain_field, is_block_taken, plain_field_at};
 use crate::put::put_in_block;
 use judge::judge;
-use model::{Handle, Read, Written};
+use model::{Handle, Refusal};
 
-pub fn read_plain(arena: &[u32], h: Handle, f: u32) -> Read
+pub fn read_plain(arena: &[u32], h: Handle, f: u32) -> Result<u32, Refusal>
     ensures { ReadPlain arena.now h.0 f result arena.now }
 {
     let mut row = [0u32; 8192];
     if !judge(arena, &mut row) {
-        return Read::Unsound;
+        return Err(Refusal::Unsound);
     }
     if !is_block_taken(arena, &row, h) {
-        return Read::NoBlock;
+        return Err(Refusal::NoBlock);
     }
     plain(block(arena, h), f)
 }
 
 // A plain word may be anything.
-pub fn write_plain(arena: &mut [u32], h: Handle, f: u32, v: u32) -> Written
+pub fn write_plain(arena: &mut [u32], h: Handle, f: u32, v: u32) -> Result<(), Refusal>
     ensures { WritePlain arena.old h.0 f v result arena.new }
 {
     let mut row = [0u32; 8192];
     if !judge(arena, &mut row) {
-        return Written::Unsound;
+        return Err(Refusal::Unsound);
     }
     if !is_block_taken(arena, &row, h) {
-        return Written::NoBlock;
+        return Err(Refusal::NoBlock);
     }
     if !has_plain_field(arena, h, f) {
-        return Written::NoField;
+        return Err(Refusal::NoField);
     }
     let o = plain_field_at(arena, h, f);
     put_in_block(arena, h, o, v);
-    Written::Done
+    Ok(())
 }
 
 // "The answer is that part of the arena itself, no copy, only to be read; empty on any refusal."
