@@ -12,6 +12,7 @@ use lib.ListN.{length, get_or, take}
 use lib.Seq.{length-take-le}
 use lib.Dec.{eqb, leb, ltb}
 use borrow.Author.Tests.{leb-true, eq-eqb, ne_eqb}
+use Rattle.model.specs.Below.{all_below}
 use Rattle.model.specs.Class.{is_class, class_of}
 use Rattle.model.specs.Layout.{arena_length, handle}
 use Rattle.model.specs.View.{block, n_in, r_in}
@@ -27,8 +28,6 @@ use Rattle.kept.proofs.Reached.{granted_collection, leaves_sound}
 use Rattle.kept.proofs.Counted.{taken_after_collection}
 use Rattle.drawing.specs.Runs.{Call, make, allocate, standing, shape, read_reference, write_reference, read_plain, write_plain, plain_words, room, collect, number, Calls, no_call, next, Run, Event, begins, allocates, collects, other, event_if_granted, event, c_after, last_c, since_after, allocations_since, frees, NoneFreed}
 use Rattle.drawing.proofs.Outcomes.{number_is, words_granted, words_refused, words_read}
-use Rattle.drawing.proofs.Refusals.{judged}
-use Rattle.drawing.proofs.RefusalNumbers.{roots_right}
 use Rattle.drawing.proofs.Made.{made_sound, made_none_taken}
 use Rattle.drawing.proofs.Kept.{Kept, kept_reference, kept_plain}
 
@@ -168,8 +167,11 @@ other_than e x true apart rest = apart
 other_than e x false apart rest = rest
 
 module _ (ws : List ℕ) (s : sound ws ≡ true) where
+  judged : (x : ℕ) → refuse 2 (not (sound ws)) x ≡ x
+  judged x = rw s
+
   not_two : (x e : ℕ) → e ≡ refuse 2 (not (sound ws)) x → x ≢ 2 → e ≢ 2
-  not_two x e same apart two = apart (sym (judged ws x s) ∙ sym same ∙ two)
+  not_two x e same apart two = apart (sym (judged x) ∙ sym same ∙ two)
 
   not_two_handle : (h x e : ℕ) → e ≡ block_refusal ws h x → x ≢ 2 → e ≢ 2
   not_two_handle h x e same apart =
@@ -197,7 +199,7 @@ module _ (ws : List ℕ) (s : sound ws ≡ true) where
   not_two_collect : (roots list : List ℕ) (e : ℕ) → e ≡ collect_refusal ws roots list → e ≢ 2
   unfolding collect_refusal
   not_two_collect roots list e same =
-      let bad : Bool = not (roots_right ws roots) in
+      let bad : Bool = not (all_below (length roots) (λ p. none_or_taken ws (get_or roots p 0))) in
       let short : Bool = ltb (length list) (taken_count ws) in
       not_two (refuse 8 bad (refuse 9 short 0)) e same
       (other_than 8 (refuse 9 short 0) bad (λ z. omega arith) (other_than 9 0 short (λ z. omega arith) zero))

@@ -3,22 +3,16 @@ ghost use Rattle.model.specs.Calls.{Make};
 
 use model::Refusal;
 use words::fields::arena_head;
-use words::slices::{clear, wide};
 
 // Fills the slice with 0 but for word 0, which names the segments.
+#[tactic(auto, unfolding(model::specs::Calls::make_refusal))]
 pub fn make(arena: &mut [u32], segments: u32) -> Result<(), Refusal>
     ensures { Make arena.old segments result arena.new }
 {
-    if segments == 0 {
+    if !(1..=64).contains(&segments) || arena.len() != 11 + 4164 * segments as usize {
         return Err(Refusal::BadSize);
     }
-    if 64 < segments {
-        return Err(Refusal::BadSize);
-    }
-    if arena.len() != 11 + 4164 * wide(segments) {
-        return Err(Refusal::BadSize);
-    }
-    clear(arena);
+    arena.fill(0);
     arena[0] = arena_head(segments);
     Ok(())
 }
