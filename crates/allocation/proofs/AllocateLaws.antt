@@ -5,22 +5,22 @@ use mathlib.Core.Path.{◌≡◌, sym, ap, ap₂, ◌∙◌, subst}
 use mathlib.Core.Bool.{true, false, ◌||◌}
 use mathlib.Core.List.{List, [], ◌∷◌}
 use native.Mathlib.Omega.{arith}
-use Rattle.std.specs.Prelude.{Err}
+use Rattle.std.proofs.Common.{Option, Some, None, Err}
 use borrow.Author.Tests.{le-ltb}
 use Rattle.model.specs.Class.{is_class, class_of}
 use Rattle.model.specs.Layout.{handle}
 use Rattle.model.specs.Calls.{class_has_untaken, has_pool, given_segment, given_index, allocated, allocate_refusal, Allocate}
 use Rattle.model.specs.Numbers.{Allocated, paper, allocated_paper}
 use Rattle.model.specs.declared.Refusal.TheVariants.{NoRoom as no_room}
-use Rattle.words.proofs.ClassLaws.{class_small, blocks_most}
+use Rattle.words.proofs.ClassLaws.{blocks_most}
 use Rattle.soundness.proofs.Tests.{or_left, or_right, or_fails}
 use Rattle.soundness.proofs.Facts.{Sound, sound_facts}
 use Rattle.allocation.specs.declared.find.Spot.{Spot}
 use Rattle.allocation.specs.declared.find.Found.{Found}
-use Rattle.allocation.specs.declared.find.Found.TheVariants.{Here, Joins, NoRoom}
+use Rattle.allocation.specs.declared.find.Found.TheVariants.{Here, Joins}
 use Rattle.allocation.specs.Spots.{Search, Given, Finds}
-use Rattle.allocation.specs.Gifts.{GiveHere, GiveJoining, Allowed}
-use Rattle.allocation.proofs.GiveLaws.{here_segment, here_index, pool_segment, pool_index}
+use Rattle.allocation.specs.Gifts.{Allowed}
+use Rattle.allocation.proofs.GiveLaws.{shape_class, here_segment, here_index, pool_segment, pool_index}
 
 -- ---- the refusal that applies
 
@@ -47,26 +47,23 @@ module _ (ws : List ℕ) (n r : ℕ) (h : Allowed ws n r) where
 
 -- ---- what the search asks
 
-shape_class : (ws : List ℕ) (n r i : ℕ) → Allowed ws n r → i ≡ class_of n → is_class i ≡ true
-shape_class ws n r i h e = ap is_class e ∙ class_small n h.small
-
 pub search_asked : {ws : List ℕ} {n r i : ℕ} → Allowed ws n r → i ≡ class_of n → Search ws i
-search_asked {ws} {n} {r} {i} h e = record { is_sound = h.is_sound; class = shape_class ws n r i h e }
+search_asked {ws} {n} {r} {i} h e = record { is_sound = h.is_sound; class = shape_class n i h.small e }
 
 -- ---- what it found
 
 -- for a shape of class i
-pub record Searched (ws : List ℕ) (n r i : ℕ) (found : Found) : Type 0 where
+pub record Searched (ws : List ℕ) (n r i : ℕ) (found : Option Found) : Type 0 where
   pub allowed : Allowed ws n r
   pub class : i ≡ class_of n
   pub finds : Finds ws i found
 
-module _ {ws : List ℕ} {n r i : ℕ} {found : Found} (s : Searched ws n r i found) where
+module _ {ws : List ℕ} {n r i : ℕ} {found : Option Found} (s : Searched ws n r i found) where
   facts : Sound ws
   facts = sound_facts ws s.allowed.is_sound
 
   class_is : is_class i ≡ true
-  class_is = shape_class ws n r i s.allowed s.class
+  class_is = shape_class n i s.allowed.small s.class
 
   -- the class has an untaken block as that of n has one
   same_has : class_has_untaken ws (class_of n) ≡ class_has_untaken ws i
@@ -80,19 +77,9 @@ module _ {ws : List ℕ} {n r i : ℕ} {found : Found} (s : Searched ws n r i fo
       ∙ ap (λ (h : ℕ). paper 0 (h ∷ [])) (ap₂ handle (given.segment ∙ ap (given_segment ws) s.class) (given.index ∙ ap (given_index ws) s.class))
 
   -- an untaken block of the class's own segments
-  module _ {spot : Spot} (is : found ≡ Here spot) where
+  module _ {spot : Spot} (is : found ≡ Some (Here spot)) where
     here : (class_has_untaken ws i ≡ true) × Given ws i spot
     here = subst (Finds ws i) is s.finds
-
-    pub give_asked : {tag : ℕ} → GiveHere ws i spot (record { n = n; r = r; tag = tag })
-    give_asked = record {
-      is_sound = s.allowed.is_sound;
-      small = s.allowed.small;
-      within = s.allowed.within;
-      class = s.class;
-      some = here.0;
-      given = here.1;
-    }
 
     pub handle_asked : (spot.segment < 64) × (spot.index.0 < 2048)
     handle_asked = (
@@ -107,20 +94,9 @@ module _ {ws : List ℕ} {n r i : ℕ} {found : Found} (s : Searched ws n r i fo
         (told_is spot a here.1 told) ew
 
   -- block 0 of a pool segment that joins
-  module _ {spot : Spot} (is : found ≡ Joins spot) where
+  module _ {spot : Spot} (is : found ≡ Some (Joins spot)) where
     joins : (class_has_untaken ws i ≡ false) × (has_pool ws ≡ true) × Given ws i spot
     joins = subst (Finds ws i) is s.finds
-
-    pub joining_asked : {tag : ℕ} → GiveJoining ws i spot (record { n = n; r = r; tag = tag })
-    joining_asked = record {
-      is_sound = s.allowed.is_sound;
-      small = s.allowed.small;
-      within = s.allowed.within;
-      class = s.class;
-      none = joins.0;
-      pool = joins.1;
-      given = joins.2;
-    }
 
     pub joining_handle_asked : (spot.segment < 64) × (spot.index.0 < 2048)
     joining_handle_asked = (
@@ -135,7 +111,7 @@ module _ {ws : List ℕ} {n r i : ℕ} {found : Found} (s : Searched ws n r i fo
         (told_is spot a joins.2 told) ew
 
   -- neither
-  pub none_given : (tag : ℕ) → found ≡ NoRoom → Allocate ws n r tag (Err no_room) ws
+  pub none_given : (tag : ℕ) → found ≡ None → Allocate ws n r tag (Err no_room) ws
   none_given tag is =
       let none : (class_has_untaken ws i ≡ false) × (has_pool ws ≡ false) = subst (Finds ws i) is s.finds in
       none_outcome ws n r s.allowed tag (or_fails (class_has_untaken ws (class_of n)) (has_pool ws) (same_has ∙ none.0) none.1)

@@ -1,45 +1,33 @@
 -- The words that giving a block leaves: a block's own, those of the arena with a lent part written, and those that document 01 says an
 -- allocation leaves.
 -- Assumes nothing.
-use Prim.Native.Nat.{ℕ, suc, ◌+◌, ◌-◌, ◌≤◌, ◌<◌}
-use mathlib.Core.Path.{◌≡◌, refl, sym, ap, ap₂, ◌∙◌}
+use Prim.Native.Nat.{ℕ, ◌+◌, ◌-◌, ◌≤◌, ◌<◌}
+use mathlib.Core.Path.{◌≡◌, sym, ap, ap₂, ◌∙◌}
 use mathlib.Core.Bool.{Bool, true, false, cond}
 use mathlib.Core.List.{List, [], ◌∷◌}
 use native.Mathlib.Omega.{arith}
-use lib.ListN.{length, set, replicate, length-replicate}
-use lib.Dec.{leb}
-use borrow.Author.Tests.{leb-true, ltb-true}
-use borrow.Rule.Slice.PartMut.{put_mid}
-use Rattle.model.specs.Below.{all_below}
+use lib.ListN.{length}
+use borrow.Author.Tests.{ltb-true}
 use Rattle.model.specs.Word.{part, put}
 use Rattle.model.specs.Class.{is_class, blocks, block_words, class_of}
-use Rattle.model.specs.Layout.{arena_length, record_head, place_at, place_word, record_at, record_words, block_at, header_word}
+use Rattle.model.specs.Layout.{arena_length, record_head, place_at, place_word, record_at, record_words, block_at}
 use Rattle.model.specs.View.{segments, class, members, ranked}
 use Rattle.model.specs.Sound.{sound}
 use Rattle.model.specs.Calls.{first_untaken, has_untaken, first_rank, class_has_untaken, first_pool, has_pool, given_segment, given_rank, given_index, joined, allocated}
 use Rattle.model.specs.declared.Shape.{Shape}
 use Rattle.laws.proofs.Below.{first_is}
-use Rattle.laws.proofs.Splice.{length_part, length_put, put_mid_is}
-use Rattle.words.proofs.ClassLaws.{class_rule, class_bounds, bounds_class, class_small, blocks_most, block_least}
+use Rattle.laws.proofs.Splice.{length_part, length_put}
+use Rattle.words.proofs.ClassLaws.{class_bounds, bounds_class, class_small, blocks_most, block_least}
 use Rattle.words.proofs.HandleLaws.{block_in_arena}
 use Rattle.bitmap.proofs.RecordLaws.{record_length}
 use Rattle.soundness.proofs.Facts.{Sound, sound_facts}
 use Rattle.soundness.proofs.Ranks.{ranked_class, ranked_member, members_le}
+use Rattle.records.proofs.OwnLaws.{blocks_bounds}
 use Rattle.allocation.specs.declared.find.Spot.{Spot}
 use Rattle.allocation.specs.Spots.{Given}
 use Rattle.allocation.specs.Gifts.{Cleared, Join, Take, GiveHere, GiveJoining, given_block, taken_words}
 
--- ---- one block, one part
-
--- zeros with a header before them
-pub cleared : (zeros : List ℕ) (n head v : ℕ) → zeros ≡ replicate n 0 → 0 < n → head ≡ v → set zeros 0 head ≡ v ∷ replicate (n - 1) 0
-cleared zeros n head v e some same =
-    let one_more : n ≡ suc (n - 1) = omega arith in
-    ap₂ (λ (ws : List ℕ) (w : ℕ). set ws 0 w) (e ∙ ap (λ (m : ℕ). replicate m 0) one_more) same
-
--- a part that is lent and comes back with words xs
-pub put_lent : (ws ys xs : List ℕ) (a k at : ℕ) → a ≡ at → ys ≡ xs → length xs ≡ k → put_mid a k ws ys ≡ put ws at xs
-put_lent ws ys xs a k at e same long = put_mid_is a k ws ys (ap length same ∙ long) ∙ ap₂ (put ws) e same
+-- ---- one block
 
 module _ (ws : List ℕ) (N i : ℕ) (spot : Spot) (shape : Shape) (h : Take ws N i spot shape) where
   -- the block ends within the arena, and has a header and a word at least
@@ -53,35 +41,14 @@ module _ (ws : List ℕ) (N i : ℕ) (spot : Spot) (shape : Shape) (h : Take ws 
   pub index_fits : spot.index.0 + 1 < 4096
   index_fits = omega (arith, h.inside, blocks_most i (bounds_class i h.low h.high))
 
-  given_block_length : length (given_block i shape) ≡ block_words i
-  given_block_length = ap suc (length-replicate (block_words i - 1) 0) ∙ omega (arith, block_some)
-
-  -- its part of the arena: so long, and what it is once it is written as a block's own words
+  -- its part of the arena is so long
   part_long : (a w : ℕ) → a ≡ block_at N spot.segment i spot.index.0 → w ≡ block_words i → length (part ws a (a + w - a)) ≡ block_words i
   part_long a w ea ew = length_part ws a (a + w - a) (omega (arith, block_ends)) ∙ omega arith
 
   pub clear_asked : (a w : ℕ) → a ≡ block_at N spot.segment i spot.index.0 → w ≡ block_words i → Cleared (part ws a (a + w - a)) shape
   clear_asked a w ea ew = record { some = omega (arith, part_long a w ea ew, block_some); n_fits = h.n_fits; r_fits = h.r_fits }
 
-  pub put_block_is : (ys : List ℕ) (a w : ℕ) → a ≡ block_at N spot.segment i spot.index.0 → w ≡ block_words i
-      → ys ≡ header_word shape.n shape.r shape.tag ∷ replicate (length (part ws a (a + w - a)) - 1) 0
-      → put_mid a (a + w - a) ws ys ≡ put ws (block_at N spot.segment i spot.index.0) (given_block i shape)
-  put_block_is ys a w ea ew same =
-      put_lent ws ys (given_block i shape) a (a + w - a) (block_at N spot.segment i spot.index.0) ea
-      (same ∙ ap (λ (m : ℕ). header_word shape.n shape.r shape.tag ∷ replicate (m - 1) 0) (part_long a w ea ew)) (given_block_length ∙ omega arith)
-
--- the block first, and then the place
-pub taken_is : (ws vs us : List ℕ) (N i : ℕ) (spot : Spot) (shape : Shape)
-    → vs ≡ put ws (block_at N spot.segment i spot.index.0) (given_block i shape)
-    → us ≡ put vs (place_at i) (place_word spot.rank (spot.index.0 + 1) ∷ []) → us ≡ taken_words ws N i spot shape
-taken_is ws vs us N i spot shape block place =
-    place ∙ ap (λ (vs : List ℕ). put vs (place_at i) (place_word spot.rank (spot.index.0 + 1) ∷ [])) block
-
 -- ---- what is given is a block of the arena
-
-blocks_some : (i : ℕ) → is_class i ≡ true → 1 ≤ blocks i
-unfolding all_below
-blocks_some i c = leb-true _ _ (class_rule (λ i. leb 1 (blocks i)) refl i c)
 
 -- an untaken block of the class's own segments
 module _ (ws : List ℕ) (sound : Sound ws) (i : ℕ) (c : is_class i ≡ true) (some : class_has_untaken ws i ≡ true) where
@@ -123,7 +90,7 @@ module _ (ws : List ℕ) (sound : Sound ws) (i : ℕ) (c : is_class i ≡ true) 
 
   pub pool_index : given_index ws i < blocks i
   unfolding given_index
-  pool_index = rw none (blocks_some i c)
+  pool_index = rw none (blocks_bounds i c).0
 
 -- ---- what is left is what document 01 says
 
@@ -141,7 +108,7 @@ allocated_is ws vs i spot shape e g same = rw (g.segment, g.rank, g.index, ← s
 pub has_head : (ws : List ℕ) → sound ws ≡ true → 0 < length ws
 has_head ws t = omega (arith, (sound_facts ws t).size.long)
 
-shape_class : (n i : ℕ) → n ≤ 1023 → i ≡ class_of n → is_class i ≡ true
+pub shape_class : (n i : ℕ) → n ≤ 1023 → i ≡ class_of n → is_class i ≡ true
 shape_class n i small e = ap is_class e ∙ class_small n small
 
 module _ (ws : List ℕ) (i : ℕ) (spot : Spot) (shape : Shape) (N : ℕ) (count : N ≡ segments ws) where

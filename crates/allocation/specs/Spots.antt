@@ -1,19 +1,16 @@
 -- What the search for a block asks and finds.
 -- Assumes nothing.
-use Rattle.std.specs.Prelude.{ℕ, ◌-◌, ◌≤◌, ◌<◌, ◌≡◌, Bool, true, false, not, ◌&&◌, List, length, eqb}
+use Rattle.std.specs.Prelude.{ℕ, ◌-◌, ◌≤◌, ◌<◌, ◌≡◌, true, false, not, List, Option, Some, None, length, ltb}
+use Rattle.std.specs.Bool.{then_some}
 use Rattle.model.specs.Below.{first_from}
 use Rattle.model.specs.Class.{is_class, blocks}
 use Rattle.model.specs.Layout.{arena_length}
-use Rattle.model.specs.View.{segments, class, rank, bit_of, members, ranked}
+use Rattle.model.specs.View.{segments, bit_of, members, ranked}
 use Rattle.model.specs.Sound.{sound}
 use Rattle.model.specs.Calls.{class_has_untaken, has_pool, given_segment, given_rank, given_index}
 use Rattle.allocation.specs.declared.find.Spot.{Spot}
 use Rattle.allocation.specs.declared.find.Found.{Found}
-use Rattle.allocation.specs.declared.find.Found.TheVariants.{Here, Joins, NoRoom}
-
--- segment s is of class i, and of rank q in it
-abbrev pub has_rank : List ℕ → ℕ → ℕ → ℕ → Bool
-has_rank ws i q s = eqb (class ws s) i && eqb (rank ws s) q
+use Rattle.allocation.specs.declared.find.Found.TheVariants.{Here, Joins}
 
 -- ---- what is asked
 
@@ -48,11 +45,20 @@ pub record Joining (ws : List ℕ) (i q : ℕ) : Type 0 where
 
 -- ---- what is found
 
+-- a number below a bound, and none where it is the bound
+abbrev pub below : ℕ → ℕ → Option ℕ
+below n k = then_some (ltb k n) k
+
 -- in the segment of rank q, the first block at or after k whose bit is 0
 pub record Free (ws : List ℕ) (i q k : ℕ) (spot : Spot) : Type 0 where
   pub segment : spot.segment ≡ ranked ws i q
   pub rank : spot.rank ≡ q
   pub index : spot.index.0 ≡ first_from k (blocks i - k) (λ j. not (bit_of ws (ranked ws i q) j))
+
+-- that block if it is one of the segment's, and none where every bit at or after k is 1
+abbrev pub FindsFree : List ℕ → ℕ → ℕ → ℕ → Option Spot → Type 0
+FindsFree ws i q k (Some spot) = Free ws i q k spot × (spot.index.0 < blocks i)
+FindsFree ws i q k None = first_from k (blocks i - k) (λ j. not (bit_of ws (ranked ws i q) j)) ≡ blocks i
 
 -- the block that document 01 says is given
 pub record Given (ws : List ℕ) (i : ℕ) (spot : Spot) : Type 0 where
@@ -61,7 +67,7 @@ pub record Given (ws : List ℕ) (i : ℕ) (spot : Spot) : Type 0 where
   pub index : spot.index.0 ≡ given_index ws i
 
 -- it is a block of the class's own segments if there is an untaken one, and else of the lowest-numbered pool segment if there is one
-abbrev pub Finds : List ℕ → ℕ → Found → Type 0
-Finds ws i (Here spot) = (class_has_untaken ws i ≡ true) × Given ws i spot
-Finds ws i (Joins spot) = (class_has_untaken ws i ≡ false) × (has_pool ws ≡ true) × Given ws i spot
-Finds ws i NoRoom = (class_has_untaken ws i ≡ false) × (has_pool ws ≡ false)
+abbrev pub Finds : List ℕ → ℕ → Option Found → Type 0
+Finds ws i (Some (Here spot)) = (class_has_untaken ws i ≡ true) × Given ws i spot
+Finds ws i (Some (Joins spot)) = (class_has_untaken ws i ≡ false) × (has_pool ws ≡ true) × Given ws i spot
+Finds ws i None = (class_has_untaken ws i ≡ false) × (has_pool ws ≡ false)

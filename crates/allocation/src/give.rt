@@ -16,14 +16,13 @@ use model::Shape;
 use words::class::block_words;
 use words::fields::{header, place};
 use words::handles::offset;
-use words::slices::{clear, wide};
 
 // A block's header, and 0 up to the block's end.
 fn clear_block(block: &mut [u32], shape: Shape)
     requires { Cleared block.old shape }
     ensures { block.new ≡ header_word shape.n shape.r shape.tag ∷ replicate (length block.old - 1) 0 }
 {
-    clear(block);
+    block.fill(0);
     block[0] = header(shape);
 }
 
@@ -33,7 +32,7 @@ fn put_block(arena: &mut [u32], segments: u32, class: u32, spot: Spot, shape: Sh
 {
     let at = offset(segments, spot.segment, class, spot.index).0;
     let words = block_words(class);
-    let end = at + wide(words);
+    let end = at + words as usize;
     clear_block(&mut arena[at..end], shape);
 }
 
@@ -41,7 +40,7 @@ fn put_place(arena: &mut [u32], class: u32, rank: u32, index: u32)
     requires { (11 ≤ length arena.old) × (3 ≤ class) × (class ≤ 12) × (rank < 256) × (index < 4096) }
     ensures { arena.new ≡ put arena.old (place_at class) (place_word rank index ∷ []) }
 {
-    arena[wide(class - 2)] = place(rank, index);
+    arena[class as usize - 2] = place(rank, index);
 }
 
 // The segment joins the class at that rank, with count 0 and no bit set.
@@ -49,9 +48,8 @@ fn join(arena: &mut [u32], segment: u32, class: u32, rank: u32)
     requires { Join arena.old segment class rank }
     ensures { arena.new ≡ put arena.old (record_at segment) (record_words class rank 0 (λ k. false)) }
 {
-    let at = 11 + 68 * wide(segment);
-    let end = at + 68;
-    fresh(&mut arena[at..end], class, rank);
+    let at = 11 + 68 * segment as usize;
+    fresh(&mut arena[at..at + 68], class, rank);
 }
 
 // The block's words and the place's. No bit is set: a block before the place is taken without one.

@@ -1,23 +1,23 @@
 -- A record whose levels are padded, and 0 otherwise, is that of a segment without any block taken.
 -- Assumes nothing.
-use Prim.Native.Nat.{ℕ, zero, suc, ◌+◌, ◌-◌, ◌<◌}
+use Prim.Native.Nat.{ℕ, zero, suc, ◌+◌, ◌-◌, ◌*◌, ◌<◌}
 use native.Mathlib.Omega.{arith}
 use native.Mathlib.Decide.{dec_lt}
 use mathlib.Core.Path.{◌≡◌, refl, sym, ◌∙◌}
 use mathlib.Core.Logic.{◌≢◌}
-use mathlib.Core.Bool.{Bool, true, false, cond}
+use mathlib.Core.Bool.{Bool, true, false, cond, ◌||◌}
 use mathlib.Core.List.{List, ◌∷◌}
 use lib.ListN.{length, set, replicate, length-set, get_or-replicate}
 use lib.Seq.{get_or-set_same, get_or-set_other}
-use lib.Dec.{eqb, ltb}
-use borrow.Author.Tests.{lt-ltb, ltb-true, eqb-true, eqb-false}
+use lib.Dec.{eqb, leb, ltb}
+use borrow.Author.Tests.{lt-ltb, lt-leb, ltb-true, eqb-true, eqb-false}
 use Rattle.model.specs.Below.{all_below, sum_below}
 use Rattle.model.specs.Word.{word, word_of_bits}
 use Rattle.model.specs.Class.{is_class, level_words, level_end}
 use Rattle.model.specs.Layout.{level_at, level_room, level_word, level_rows}
 use Rattle.laws.proofs.Below.{all_below_at}
 use Rattle.bitmap.specs.Tree.{padding_word, padded_level}
-use Rattle.bitmap.proofs.LevelLaws.{at_level, words_room, level_inside, levels_apart}
+use Rattle.bitmap.proofs.LevelLaws.{or_right, at_level, words_room, level_inside, levels_apart}
 use Rattle.bitmap.proofs.RecordLaws.{record_is}
 
 -- the words of a level without any bit set: 0, but for the padding in the last that is used
@@ -30,6 +30,16 @@ empty_word i l j h m r =
     eqb-true _ _
     (all_below_at (level_room l) (λ j. eqb (level_word i (λ k. false) l j) (empty_level_word i l j))
     (at_level (λ i l. all_below (level_room l) (λ j. eqb (level_word i (λ k. false) l j) (empty_level_word i l j))) refl i l h m) j r)
+
+-- ones from where the level's end stands in the last word
+pub padding_is : (i l : ℕ) → is_class i ≡ true → l < 3 → 0 < level_words i l
+    → word_of_bits (λ b. leb (level_end i l - 32 * (level_words i l - 1)) b) ≡ padding_word (level_end i l)
+unfolding all_below level_words level_end word_of_bits sum_below
+padding_is i l h m used =
+    eqb-true _ _
+    (or_right (leb (level_words i l) 0) (eqb (word_of_bits (λ b. leb (level_end i l - 32 * (level_words i l - 1)) b)) (padding_word (level_end i l)))
+    (at_level (λ i l. leb (level_words i l) 0 || eqb (word_of_bits (λ b. leb (level_end i l - 32 * (level_words i l - 1)) b)) (padding_word (level_end i l))) refl i l h m)
+    (lt-leb _ _ used))
 
 -- ---- padding one level
 

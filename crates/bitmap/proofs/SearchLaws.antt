@@ -1,22 +1,23 @@
--- The ways out of the search for a free bit, each the first free bit of its level at or after k, or the level's end.
+-- The ways out of the search for a free bit, each the first free bit of its level at or after k, or none where there is none up to the level's end.
 -- Assumes nothing.
 use Prim.Native.Nat.{ℕ, suc, ◌+◌, ◌-◌, ◌*◌, ◌/◌, ◌%◌, ◌^◌, ◌≤◌, ◌<◌}
 use native.Mathlib.Omega.{arith}
 use native.Mathlib.Numerals.{add-one}
 use native.Mathlib.Decide.{dec_lt, ℕ_discrete}
-use mathlib.Core.Logic.{◌≢◌}
-use mathlib.Core.Path.{◌≡◌, sym, ap, ◌∙◌}
-use mathlib.Core.Bool.{Bool, true, false, not, ◌||◌, true≢false}
+use mathlib.Core.Path.{◌≡◌, refl, sym, ap, ◌∙◌}
+use mathlib.Core.Bool.{Bool, true, false, cond, not, ◌||◌, true≢false}
 use mathlib.Core.List.{List}
-use borrow.Author.Tests.{lt-leb, le-leb, not-true, not-false}
+use lib.Dec.{ltb}
+use Rattle.std.specs.Prelude.{Option, Some, None, unwrap_or}
+use borrow.Author.Tests.{lt-leb, le-leb, lt-ltb, le-ltb, ltb-true, ltb-false, not-true, not-false}
 use Rattle.model.specs.Below.{first_from}
 use Rattle.model.specs.Word.{word, bit, full}
-use Rattle.model.specs.Class.{level_words, level_end}
+use Rattle.model.specs.Class.{level_words, level_end, levels}
 use Rattle.model.specs.Layout.{level_at, level_room, level_word}
 use Rattle.model.specs.View.{bit_in}
 use Rattle.laws.proofs.Below.{First, first_is, first_unique}
 use Rattle.laws.proofs.Bits.{full_bit, free_bit}
-use Rattle.bitmap.specs.Tree.{Search, level_bit}
+use Rattle.bitmap.specs.Tree.{Search, level_bit, before_end}
 use Rattle.bitmap.proofs.LevelLaws.{level_set, level_word_lt, words_room, words_hold, words_next, levels_le, used_level, unused_level}
 use Rattle.bitmap.proofs.RecordLaws.{right_level, level_bit_is}
 
@@ -27,7 +28,49 @@ free w b = not (bit w b)
 abbrev free_at : List ℕ → ℕ → ℕ → Bool
 free_at rec l j = not (level_bit rec l j)
 
-module _ {rec : List ℕ} {i l left k : ℕ} (s : Search rec i l left k) where
+-- the first free bit of a level at or after k
+abbrev pub first_bit : List ℕ → ℕ → ℕ → ℕ → Option ℕ
+first_bit rec i l k = before_end (level_end i l) (first_from k (level_end i l - k) (free_at rec l))
+
+-- ---- a bit before the end, or none
+
+some_before : (end r n : ℕ) → n ≡ r → n < end → Some n ≡ before_end end r
+some_before end r n e h = rw (lt-ltb r end (omega arith), e)
+
+none_before : (end r : ℕ) → end ≤ r → None ≡ before_end end r
+none_before end r h = rw (le-ltb r end h)
+
+before_some : (end r n : ℕ) → Some n ≡ before_end end r → (n ≡ r) × (n < end)
+before_some end r n = go (ltb r end) refl
+  where
+    go : (t : Bool) → ltb r end ≡ t → Some n ≡ cond t (Some r) None → (n ≡ r) × (n < end)
+    go true e same = let n_r : n ≡ r = cc in (n_r, omega (arith, ltb-true r end e))
+    go false e same = cc
+
+before_none : (end r : ℕ) → None ≡ before_end end r → end ≤ r
+before_none end r = go (ltb r end) refl
+  where
+    go : (t : Bool) → ltb r end ≡ t → ◌≡◌ {A = Option ℕ} None (cond t (Some r) None) → end ≤ r
+    go true e same = cc
+    go false e same = ltb-false r end e
+
+-- an answer at or after the end is the same as none
+first_past : (p : ℕ → Bool) (a end : ℕ) → a ≤ end → None ≡ before_end end (first_from a (end - a) p) → first_from a (end - a) p ≡ end
+first_past p a end h e = omega (arith, (first_is a (end - a) p).within, before_none end (first_from a (end - a) p) e)
+
+-- with the end for none it is the first itself
+pub first_or_end : (p : ℕ → Bool) (a end : ℕ) → a ≤ end → unwrap_or (before_end end (first_from a (end - a) p)) end ≡ first_from a (end - a) p
+first_or_end p a end h = go (ltb (first_from a (end - a) p) end) refl
+  where
+    go : (t : Bool) → ltb (first_from a (end - a) p) end ≡ t → unwrap_or (cond t (Some (first_from a (end - a) p)) None) end ≡ first_from a (end - a) p
+    go true e = refl
+    go false e = omega (arith, (first_is a (end - a) p).within, ltb-false (first_from a (end - a) p) end e)
+
+-- the answer at a level that is the same
+pub same_level : (x : Option ℕ) (k : ℕ) {r rec : List ℕ} {j i m l : ℕ} → (r ≡ rec) × (j ≡ i) × (m ≡ l) → x ≡ first_bit r j m k → x ≡ first_bit rec i l k
+same_level x k same e = rw (sym same.0, sym same.1, sym same.2) e
+
+module _ {rec : List ℕ} {i l k : ℕ} (s : Search rec i l k) where
   pub l<3 : l < 3
   l<3 = omega (arith, levels_le i s.class, s.level)
 
@@ -41,17 +84,10 @@ module _ {rec : List ℕ} {i l left k : ℕ} (s : Search rec i l left k) where
   pub own_room : k < level_end i l → k / 32 < level_room l
   own_room k<end = omega (arith, hold, words_room i l s.class l<3)
 
-  -- the search one level higher, from the next word on
-  pub higher : 0 < left → k < level_end i l → Search rec i (l + 1) (left - 1) (k / 32 + 1)
+  -- one level higher the next word is at the end at most
+  pub higher : k < level_end i l → k / 32 + 1 ≤ level_end i (l + 1)
   unfolding level_end
-  higher more k<end =
-      record {
-        long = s.long;
-        class = s.class;
-        right = s.right;
-        level = omega (arith, s.level);
-        inside = rw (add-one l) (omega (arith, hold));
-      }
+  higher k<end = rw (add-one l) (omega (arith, hold))
 
   -- a bit past the level's end is set, so a free one stands before it
   inside : (j : ℕ) → j < 32 * level_words i l → level_bit rec l j ≡ false → j < level_end i l
@@ -66,11 +102,11 @@ module _ {rec : List ℕ} {i l left k : ℕ} (s : Search rec i l left k) where
           ∙ e))
 
   -- a bit of the next level tells that a word is full
-  next_bit : (j : ℕ) → 0 < left → j < level_words i l → level_bit rec (suc l) j ≡ full (word rec (level_at l + j))
+  next_bit : (j : ℕ) → suc l < levels i → j < level_words i l → level_bit rec (suc l) j ≡ full (word rec (level_at l + j))
   unfolding level_end
   next_bit j more h =
       let l+1<3 : suc l < 3 = omega (arith, levels_le i s.class, s.level) in
-      let above : 0 < level_words i (suc l) = used_level i (suc l) s.class (omega (arith, s.level)) in
+      let above : 0 < level_words i (suc l) = used_level i (suc l) s.class more in
       level_bit_is i (bit_in rec) rec (suc l) s.class l+1<3 (right_level i rec s.right (suc l) l+1<3) j
       (omega (arith, words_hold i (suc l) s.class l+1<3 above))
       ∙ ap (λ (t : Bool). t || full (level_word i (bit_in rec) l j)) (lt-leb (level_words i l) j h)
@@ -78,29 +114,30 @@ module _ {rec : List ℕ} {i l left k : ℕ} (s : Search rec i l left k) where
 
   -- a free bit before which all are set from k on is the answer, and where all are set up to the end that is
   first_at : (r : ℕ) → k ≤ r → r < 32 * level_words i l → level_bit rec l r ≡ false → ((x : ℕ) → k ≤ x → x < r → level_bit rec l x ≡ true)
-      → r ≡ first_from k (level_end i l - k) (free_at rec l)
+      → Some r ≡ first_bit rec i l k
   first_at r low high e before =
       let h : r < level_end i l = inside r high e in
-      first_unique (record {
+      some_before (level_end i l) _ r (first_unique (record {
         from = low;
         within = omega arith;
         before = λ x g u. ap not (before x g u);
         found = λ _. ap not e;
-      })
+      })) h
 
-  first_none : ((x : ℕ) → k ≤ x → x < level_end i l → level_bit rec l x ≡ true) → level_end i l ≡ first_from k (level_end i l - k) (free_at rec l)
+  first_none : ((x : ℕ) → k ≤ x → x < level_end i l → level_bit rec l x ≡ true) → None ≡ first_bit rec i l k
   first_none all =
-      first_unique (record {
+      let last : level_end i l ≡ first_from k (level_end i l - k) (free_at rec l) = first_unique (record {
         from = s.inside;
         within = omega (arith, s.inside);
         before = λ x g u. ap not (all x g u);
         found = λ u. absurd (omega arith);
-      })
+      }) in
+      none_before (level_end i l) _ (omega arith)
 
   -- ---- the ways out
 
   -- k is the end
-  pub at_end : k ≡ level_end i l → level_end i l ≡ first_from k (level_end i l - k) (free_at rec l)
+  pub at_end : k ≡ level_end i l → None ≡ first_bit rec i l k
   at_end e = first_none (λ x low high. absurd (omega arith))
 
   module _ (b : ℕ) (here : b ≡ first_from (k % 32) (32 - k % 32) (free (word rec (level_at l + k / 32)))) where
@@ -112,7 +149,7 @@ module _ {rec : List ℕ} {i l left k : ℕ} (s : Search rec i l left k) where
     own_word x low same h = rw same (not-false _ (first_here.before (x % 32) (omega arith) h))
 
     -- k's own word has a free bit
-    pub in_word : k < level_end i l → b < 32 → 32 * (k / 32) + b ≡ first_from k (level_end i l - k) (free_at rec l)
+    pub in_word : k < level_end i l → b < 32 → Some (32 * (k / 32) + b) ≡ first_bit rec i l k
     in_word k<end h =
         let word_of : (32 * (k / 32) + b) / 32 ≡ k / 32 = omega arith in
         let bit_of : (32 * (k / 32) + b) % 32 ≡ b = omega arith in
@@ -120,7 +157,7 @@ module _ {rec : List ℕ} {i l left k : ℕ} (s : Search rec i l left k) where
         (λ x low high. own_word x low (omega arith) (omega arith))
 
     -- it has none, and there is no next level
-    pub no_level : 32 ≤ b → left ≡ 0 → level_end i l ≡ first_from k (level_end i l - k) (free_at rec l)
+    pub no_level : 32 ≤ b → l + 1 ≡ levels i → None ≡ first_bit rec i l k
     no_level h e =
         let one : level_words i l ≤ 1 = one_word (dec_lt 1 (level_words i l)) in
         first_none (λ x low high. own_word x low (omega (arith, hold)) (omega arith))
@@ -131,18 +168,18 @@ module _ {rec : List ℕ} {i l left k : ℕ} (s : Search rec i l left k) where
             absurd (omega (arith, words_next i l s.class l<3 u))
         one_word (no u) = omega arith
 
-    -- the next level tells of no other word
-    module _ (more : 0 < left) (full_word : 32 ≤ b) (next : ℕ)
+    -- there is one, and it tells of no other word
+    module _ (more : l + 1 < levels i) (full_word : 32 ≤ b) (next : ℕ)
         (up : next ≡ first_from (k / 32 + 1) (level_end i (l + 1) - (k / 32 + 1)) (free_at rec (l + 1))) where
       first_up : First (k / 32 + 1) (level_end i (suc l) - (k / 32 + 1)) (free_at rec (suc l)) next
       first_up = rw (rw (add-one l) at up) (first_is (k / 32 + 1) (level_end i (suc l) - (k / 32 + 1)) (free_at rec (suc l)))
 
-      next_end : next ≢ level_end i (l + 1) → k < level_end i l → next < level_words i l
+      next_end : next < level_end i (l + 1) → next < level_words i l
       unfolding level_end
-      next_end e k<end = let e : next ≢ level_end i (suc l) = rw (add-one l) at e in omega (arith, first_up.within, hold)
+      next_end h = rw (add-one l) at h
 
-      pub next_room : next ≢ level_end i (l + 1) → k < level_end i l → next < level_room l
-      next_room e k<end = omega (arith, next_end e k<end, words_room i l s.class l<3)
+      pub next_room : next < level_end i (l + 1) → next < level_room l
+      next_room h = omega (arith, next_end h, words_room i l s.class l<3)
 
       -- bits of the words before that one
       words_before : (x : ℕ) → k ≤ x → x / 32 < next → x / 32 < level_words i l → level_bit rec l x ≡ true
@@ -152,22 +189,22 @@ module _ {rec : List ℕ} {i l left k : ℕ} (s : Search rec i l left k) where
           go (yes e) = own_word x low e (omega arith)
           go (no e) =
               full_bit (word rec (level_at l + x / 32)) (x % 32) (omega arith)
-              (sym (next_bit (x / 32) more used_word) ∙ not-false _ (first_up.before (x / 32) (omega arith) h))
+              (sym (next_bit (x / 32) (omega arith) used_word) ∙ not-false _ (first_up.before (x / 32) (omega arith) h))
 
-      pub no_word : k < level_end i l → next ≡ level_end i (l + 1) → level_end i l ≡ first_from k (level_end i l - k) (free_at rec l)
+      pub no_word : k < level_end i l → next ≡ level_end i (l + 1) → None ≡ first_bit rec i l k
       unfolding level_end
       no_word k<end e =
           let e : next ≡ level_end i (suc l) = rw (add-one l) at e in
           first_none (λ x low high. words_before x low (omega (arith, hold)) (omega (arith, hold)))
 
       -- it tells of one, and there the search comes down
-      pub down : k < level_end i l → next ≢ level_end i (l + 1) → (c : ℕ) → c ≡ first_from 0 32 (free (word rec (level_at l + next)))
-          → 32 * next + c ≡ first_from k (level_end i l - k) (free_at rec l)
+      pub down : k < level_end i l → next < level_end i (l + 1) → (c : ℕ) → c ≡ first_from 0 32 (free (word rec (level_at l + next)))
+          → Some (32 * next + c) ≡ first_bit rec i l k
       unfolding level_end
-      down k<end e c there =
-          let used_next = next_end e k<end in
+      down k<end h c there =
+          let used_next = next_end h in
           let not_full : full (word rec (level_at l + next)) ≡ false =
-          sym (next_bit next more used_next) ∙ not-true _ (first_up.found (omega (arith, hold))) in
+          sym (next_bit next (omega arith) used_next) ∙ not-true _ (first_up.found (omega (arith, hold))) in
           let small : word rec (level_at l + next) < 2 ^ 32 =
           rw (right_level i rec s.right l l<3 next (omega (arith, words_room i l s.class l<3))) (level_word_lt i (bit_in rec) l next) in
           let first_there : First 0 32 (free (word rec (level_at l + next))) c = rw there (first_is 0 32 (free (word rec (level_at l + next)))) in
@@ -189,3 +226,20 @@ module _ {rec : List ℕ} {i l left k : ℕ} (s : Search rec i l left k) where
           at_or_before c f used_next x low high (no h) =
               let same : x / 32 ≡ next = omega (arith, f.within) in
               rw same (not-false _ (f.before (x % 32) (omega arith) (omega (arith, f.within))))
+
+    -- ---- the same, by what the search one level higher answers
+
+    pub none_above : l + 1 < levels i → 32 ≤ b → k < level_end i l → None ≡ first_bit rec i (l + 1) (k / 32 + 1) → None ≡ first_bit rec i l k
+    none_above more full_word k<end e =
+        no_word more full_word (first_from (k / 32 + 1) (level_end i (l + 1) - (k / 32 + 1)) (free_at rec (l + 1))) refl k<end
+        (first_past (free_at rec (l + 1)) (k / 32 + 1) (level_end i (l + 1)) (higher k<end) e)
+
+    module _ (more : l + 1 < levels i) (full_word : 32 ≤ b) (next : ℕ) (told : Some next ≡ first_bit rec i (l + 1) (k / 32 + 1)) where
+      next_is : (next ≡ first_from (k / 32 + 1) (level_end i (l + 1) - (k / 32 + 1)) (free_at rec (l + 1))) × (next < level_end i (l + 1))
+      next_is = before_some (level_end i (l + 1)) (first_from (k / 32 + 1) (level_end i (l + 1) - (k / 32 + 1)) (free_at rec (l + 1))) next told
+
+      pub room_above : next < level_room l
+      room_above = next_room more full_word next next_is.0 next_is.1
+
+      pub found_above : k < level_end i l → (c : ℕ) → c ≡ first_from 0 32 (free (word rec (level_at l + next))) → Some (32 * next + c) ≡ first_bit rec i l k
+      found_above k<end c there = down more full_word next next_is.0 k<end next_is.1 c there

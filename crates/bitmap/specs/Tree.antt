@@ -1,6 +1,6 @@
 -- What the functions on a record's own words ask and leave.
 -- Assumes nothing.
-use Rattle.std.specs.Prelude.{ℕ, zero, suc, ◌+◌, ◌-◌, ◌*◌, ◌/◌, ◌%◌, ◌^◌, ◌≤◌, ◌<◌, ◌≡◌, Bool, true, cond, ◌||◌, List, ◌∷◌, length, set, replicate, eqb, ltb}
+use Rattle.std.specs.Prelude.{ℕ, zero, suc, ◌+◌, ◌-◌, ◌*◌, ◌/◌, ◌%◌, ◌^◌, ◌≤◌, ◌<◌, ◌≡◌, Bool, true, cond, ◌||◌, List, ◌∷◌, length, set, replicate, eqb, ltb, Option, Some, None}
 use Rattle.model.specs.Word.{word, bit, ones, full, word_of_bits}
 use Rattle.model.specs.Class.{is_class, blocks, level_words, level_end, levels}
 use Rattle.model.specs.Layout.{record_head, level_at, level_room}
@@ -21,13 +21,6 @@ pub record OnLevel (rec : List ℕ) (i l : ℕ) : Type 0 where
   pub class : is_class i ≡ true
   pub level : l < 3
 
--- word j of a level, and a place in it
-pub record WordOf (rec : List ℕ) (l j b : ℕ) : Type 0 where
-  pub long : length rec ≡ 68
-  pub level : l < 3
-  pub inside : j < level_room l
-  pub place : b ≤ 32
-
 -- bit k of a level with so many levels left above it
 pub record BitOf (rec : List ℕ) (l left k : ℕ) : Type 0 where
   pub long : length rec ≡ 68
@@ -41,12 +34,12 @@ pub record SetBit (rec : List ℕ) (i k : ℕ) : Type 0 where
   pub right : levels_right i rec ≡ true
   pub block : k < blocks i
 
--- the same, with a place that may be the end of a level
-pub record Search (rec : List ℕ) (i l left k : ℕ) : Type 0 where
+-- the same, with a level that the class uses, and a place that may be the level's end
+pub record Search (rec : List ℕ) (i l k : ℕ) : Type 0 where
   pub long : length rec ≡ 68
   pub class : is_class i ≡ true
   pub right : levels_right i rec ≡ true
-  pub level : l + left + 1 ≡ levels i
+  pub level : l < levels i
   pub inside : k ≤ level_end i l
 
 pub record FirstFree (rec : List ℕ) (i k : ℕ) : Type 0 where
@@ -61,6 +54,10 @@ pub record Fresh (rec : List ℕ) (i rank : ℕ) : Type 0 where
   pub ranked : rank < 256
 
 -- ---- what is left
+
+-- the bit r of a level where it stands before the level's end, and none where it is that end
+abbrev pub before_end : ℕ → ℕ → Option ℕ
+before_end end r = cond (ltb r end) (Some r) None
 
 -- bit j of level l
 abbrev pub level_bit : List ℕ → ℕ → ℕ → Bool

@@ -16,7 +16,7 @@ fn set_level_bit(rec: &mut [u32], level: u32, k: u32) -> bool
     let at = word_at(level, k / 32);
     let w = with_bit(rec[at], k % 32);
     rec[at] = w;
-    w == 0xFFFF_FFFF
+    w == u32::MAX
 }
 
 // Sets a bit and climbs to the next of the levels that are left only when the word has become full.

@@ -8,20 +8,13 @@ ghost use Rattle.bitmap.specs.Tree.{OfClass};
 
 use words::bits::ones;
 use words::class::blocks;
-use words::slices::wide;
 
 // The ones of some words.
 pub fn ones_in(ws: &[u32]) -> u32
     requires { length ws.now ≤ 64 }
     ensures { result ≡ sum_below (length ws.now) (λ j. count_below 32 (bit (word ws.now j))) }
 {
-    let mut sum: u32 = 0;
-    let mut j = 0;
-    while j < ws.len() {
-        sum += ones(ws[j]);
-        j += 1;
-    }
-    sum
+    ws.iter().map(|w| ones(*w)).sum()
 }
 
 // The first n bits of a word, and 0 behind them.
@@ -41,6 +34,6 @@ pub fn count(rec: &[u32], class: u32) -> u32
     if n < 32 {
         return ones(low_bits(rec[1], n));
     }
-    let end = 1 + wide(n / 32);
-    ones_in(&rec[1..end])
+    let words = (n / 32) as usize;
+    ones_in(&rec[1..=words])
 }

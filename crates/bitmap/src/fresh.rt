@@ -1,25 +1,14 @@
 // The record of a segment that joins a class.
 ghost use Rattle.std.specs.Prelude.{◌≡◌, false};
 ghost use Rattle.model.specs.Layout.{record_words};
-ghost use Rattle.bitmap.specs.Tree.{OnLevel, Fresh, head_only, padding_word, padded_level};
+ghost use Rattle.bitmap.specs.Tree.{OnLevel, Fresh, head_only, padded_level};
 
 use crate::levels::{level_end, word_at};
+use words::bits::ones_from;
 use words::class::level_words;
 use words::fields::record_head;
-use words::slices::clear;
 
-// The word in which a level ends: ones past the end.
-fn padding(end: u32) -> u32
-    ensures { result ≡ padding_word end }
-{
-    let b = end % 32;
-    if b == 0 {
-        return 0;
-    }
-    0xFFFF_FFFF << b
-}
-
-// Pads the last word of a level, if the class uses the level.
+// Pads the last word of a level, if the class uses the level: ones past the level's end.
 fn pad(rec: &mut [u32], class: u32, level: u32)
     requires { OnLevel rec.old class level }
     ensures { rec.new ≡ padded_level class level rec.old }
@@ -28,8 +17,9 @@ fn pad(rec: &mut [u32], class: u32, level: u32)
     if words == 0 {
         return;
     }
-    let at = word_at(level, words - 1);
-    rec[at] = padding(level_end(class, level));
+    let last = words - 1;
+    let bits = level_end(class, level) - 32 * last;
+    rec[word_at(level, last)] = ones_from(bits);
 }
 
 // A record's head, and 0 behind it.
@@ -37,7 +27,7 @@ fn head_only(rec: &mut [u32], class: u32, rank: u32)
     requires { Fresh rec.old class rank }
     ensures { rec.new ≡ head_only class rank }
 {
-    clear(rec);
+    rec.fill(0);
     rec[0] = record_head(class, rank, 0);
 }
 

@@ -5,18 +5,15 @@ ghost use Rattle.model.specs.Layout.{level_at, level_room};
 ghost use Rattle.bitmap.specs.Tree.{ClassLevel};
 
 use words::class::{blocks, level_words};
-use words::slices::wide;
 
 fn level_at(level: u32) -> usize
     requires { level < 3 }
     ensures { result ≡ level_at level }
 {
-    if level == 0 {
-        1
-    } else if level == 1 {
-        65
-    } else {
-        67
+    match level {
+        0 => 1,
+        1 => 65,
+        _ => 67,
     }
 }
 
@@ -25,7 +22,7 @@ pub fn word_at(level: u32, j: u32) -> usize
     requires { (level < 3) × (j < level_room level) }
     ensures { (result ≡ level_at level + j) × (result < 68) }
 {
-    level_at(level) + wide(j)
+    level_at(level) + j as usize
 }
 
 // The end of a level, in bits.
@@ -33,10 +30,9 @@ pub fn level_end(class: u32, level: u32) -> u32
     requires { ClassLevel class level }
     ensures { result ≡ level_end class level }
 {
-    if level == 0 {
-        blocks(class)
-    } else {
-        level_words(class, level - 1)
+    match level {
+        0 => blocks(class),
+        _ => level_words(class, level - 1),
     }
 }
 
@@ -44,11 +40,9 @@ pub fn levels(class: u32) -> u32
     requires { is_class class ≡ true }
     ensures { result ≡ levels class }
 {
-    if class == 3 {
-        3
-    } else if class < 9 {
-        2
-    } else {
-        1
+    match class {
+        3 => 3,
+        4..=8 => 2,
+        _ => 1,
     }
 }

@@ -27,15 +27,15 @@ fn allocate_sound(arena: &mut [u32], shape: Shape) -> Result<Handle, Refusal>
 {
     let class = class_of(shape.n);
     match find(arena, class) {
-        Found::Here(spot) => {
+        Some(Found::Here(spot)) => {
             give(arena, class, spot, shape);
             Ok(given(spot))
         }
-        Found::Joins(spot) => {
+        Some(Found::Joins(spot)) => {
             give_joining(arena, class, spot, shape);
             Ok(given(spot))
         }
-        Found::NoRoom => Err(Refusal::NoRoom),
+        None => Err(Refusal::NoRoom),
     }
 }
 

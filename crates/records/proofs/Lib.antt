@@ -1,3 +1,3 @@
-pub mod LoopLaws
+pub mod ChainLaws
 pub mod OwnLaws
 pub mod RecordsLaws

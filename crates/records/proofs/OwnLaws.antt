@@ -2,26 +2,25 @@
 -- Assumes nothing.
 use Prim.Native.Nat.{ℕ, zero, suc, ◌+◌, ◌-◌, ◌*◌, ◌/◌, ◌%◌, ◌^◌, ◌≤◌, ◌<◌, min, zero-le}
 use mathlib.Core.Path.{◌≡◌, refl, sym, ap, ap₂, ◌∙◌}
-use mathlib.Core.Bool.{Bool, true, false, cond, not, ◌&&◌, ◌||◌, or-true, or-false}
+use mathlib.Core.Bool.{Bool, true, false, cond, ◌&&◌, ◌||◌, or-true, or-false}
 use mathlib.Core.List.{List}
 use native.Mathlib.Decide.{dec_lt}
 use native.Mathlib.Omega.{arith}
 use lib.ListN.{length, get_or-eq_default}
 use lib.Bits.{bit_or, or_lt}
-use lib.Pow.{shr_le}
 use lib.Dec.{eqb, leb, ltb}
 use borrow.Author.Tests.{eqb-true, leb-true, eq-eqb, ne_eqb, le-leb, lt-leb, lt-ltb, le-ltb}
 use Rattle.model.specs.Below.{all_below}
-use Rattle.model.specs.Word.{word, part, bit, ones, full, word_of_bits}
+use Rattle.model.specs.Word.{word, part, bit, full, word_of_bits}
 use Rattle.model.specs.Class.{is_class, blocks, words_for, level_words, level_end}
 use Rattle.model.specs.Layout.{level_at, level_room, padded_word, level_word}
 use Rattle.model.specs.View.{bit_in}
 use Rattle.model.specs.Sound.{levels_right}
 use Rattle.laws.proofs.Below.{all_below_step, all_below_at, all_below_intro, all_below_ext, all_below_split}
-use Rattle.laws.proofs.Bits.{bit_zero, bit_shift, bit_not, bit_ones, bit_of_or, bit_past, bit_word_of_bits, word_of_bits_lt, word_of_bits_ext, word_of_its_bits, word_ext}
+use Rattle.laws.proofs.Bits.{bit_zero, bit_of_or, bit_word_of_bits, word_of_bits_lt, word_of_bits_ext, word_of_its_bits, word_ext}
 use Rattle.laws.proofs.Splice.{length_part, word_part}
 use Rattle.words.proofs.ClassLaws.{class_rule, blocks_most}
-use Rattle.bitmap.proofs.LevelLaws.{level_set, level_word_is, padded_used, padded_unused, padded_ext, words_room, level_inside}
+use Rattle.bitmap.proofs.LevelLaws.{level_set, level_word_is, padded_used, padded_unused, padded_ext, words_room}
 use Rattle.soundness.proofs.Tests.{Order, is_below, is_same, is_above, order}
 use Rattle.records.specs.Own.{own_set, own_word, word_right, level_right, LowestOf}
 
@@ -30,16 +29,6 @@ use Rattle.records.specs.Own.{own_set, own_word, word_right, level_right, Lowest
 -- a word is the one that has these bits
 word_is : (w : ℕ) (f : ℕ → Bool) → w < 2 ^ 32 → ((b : ℕ) → b < 32 → bit w b ≡ f b) → w ≡ word_of_bits f
 word_is w f h e = word_ext w (word_of_bits f) h (word_of_bits_lt f) (λ b l. e b l ∙ sym (bit_word_of_bits f b l))
-
--- `!(0xFFFF_FFFF >> (32 - n))`
-pub padding_is : (n : ℕ) → 1 ≤ n → n ≤ 32 → ones - ones / 2 ^ (32 - n) ≡ word_of_bits (λ b. leb n b)
-padding_is n low high =
-    word_is (ones - ones / 2 ^ (32 - n)) (λ b. leb n b) (omega arith)
-    (λ b l. bit_not (ones / 2 ^ (32 - n)) b (omega (arith, shr_le ones (32 - n))) l ∙ ap not (bit_shift ones (32 - n) b) ∙ past b l (dec_lt b n))
-  where
-    past : (b : ℕ) → b < 32 → Dec (b < n) → not (bit ones (32 - n + b)) ≡ leb n b
-    past b l (yes h) = rw (bit_ones (32 - n + b) (omega arith)) (sym (lt-leb n b h))
-    past b l (no h) = rw (bit_past 32 ones (32 - n + b) (omega arith) (omega arith)) (sym (le-leb n b (omega arith)))
 
 -- ---- which words are full, one after the other
 
@@ -157,23 +146,12 @@ module _ (rec : List ℕ) (words end : ℕ) (h : LowestOf rec words end) (fits :
       ap₂ zeros long behind
       ∙ sym (lowest_is ∙ ap (λ (t : Bool). t && zeros (64 - words) (part rec (1 + words) (64 - words))) e)
 
--- ---- where the words stand
-
-pub room_most : (l : ℕ) → level_room l ≤ 64
-room_most zero = omega arith
-room_most (suc zero) = omega arith
-room_most (suc (suc l)) = omega arith
-
--- n words of a level from word 32 j on end inside the record
-pub words_inside : (l j n : ℕ) → l < 3 → 1 ≤ n → 32 * j + n ≤ level_room l → level_at l + 32 * j + n ≤ 68
-words_inside l j n l<3 some inside = omega (arith, level_inside l (32 * j + n - 1) l<3 (omega arith))
+-- ---- levels
 
 -- level 0 of a class ends inside a record, and not before it has begun
 pub blocks_bounds : (i : ℕ) → is_class i ≡ true → (1 ≤ blocks i) × (blocks i ≤ 2048)
 unfolding all_below
 blocks_bounds i class = (leb-true _ _ (class_rule (λ i. leb 1 (blocks i)) refl i class), blocks_most i class)
-
--- ---- levels
 
 -- level l by the record's own words, and by the class and the level-0 bits
 abbrev own_right : ℕ → List ℕ → ℕ → Bool

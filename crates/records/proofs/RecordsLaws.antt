@@ -2,13 +2,13 @@
 -- blocks.
 -- Assumes nothing.
 use Prim.Native.Nat.{ℕ, zero, suc}
-use mathlib.Core.Path.{◌≡◌, refl, sym, ap, ◌∙◌}
+use mathlib.Core.Path.{◌≡◌, refl, ap, ◌∙◌}
 use mathlib.Core.Bool.{Bool, true, false, not, ◌&&◌, ◌||◌, and_assoc}
 use mathlib.Core.List.{List}
 use native.Mathlib.Omega.{arith}
 use lib.ListN.{length}
 use lib.Dec.{eqb}
-use borrow.Author.Tests.{eq-eqb, ne_eqb}
+use borrow.Author.Tests.{ne_eqb}
 use Rattle.model.specs.Below.{all_below}
 use Rattle.model.specs.Word.{word}
 use Rattle.model.specs.Class.{is_class}
@@ -58,22 +58,13 @@ classed_facts {ws} z t =
       classed = λ s l used. (Facts.classes_facts ws size t).classed s (record { below = l; used = used });
     }
 
--- ---- a segment in the pool, and a member of a class
+-- ---- a member of a class
 
-pub is_zero : {x y : ℕ} → x ≡ y → x ≡ 0 → eqb y 0 ≡ true
-is_zero {x} {y} e z = eq-eqb y 0 (sym e ∙ z)
-
-pub not_zero : {x y : ℕ} → x ≡ y → (x ≡ 0 → ⊥) → eqb y 0 ≡ false
-not_zero {x} {y} e f = ne_eqb y 0 (λ z. f (e ∙ z))
-
-pub member_class : {x : ℕ} {ws : List ℕ} {s : ℕ} → Member ws s → x ≡ class ws s → (x ≡ 0 → ⊥) → is_class x ≡ true
-member_class m e f = ap is_class e ∙ m.classed (not_zero e f)
-
--- the 68 words of its record
+-- a segment that is not in the pool has a record of 68 words and one of the ten classes
 pub member_record : {x : ℕ} {rec ws : List ℕ} {s : ℕ} → Member ws s → rec ≡ record_of ws s → x ≡ class ws s → (x ≡ 0 → ⊥) → OfClass rec x
 member_record {ws = ws} {s = s} m r e f = record {
   long = ap length r ∙ record_length ws s (record { few = m.few; long = m.long; there = m.there });
-  class = member_class m e f;
+  class = ap is_class e ∙ m.classed (ne_eqb (class ws s) 0 (λ z. f (e ∙ z)));
 }
 
 -- ---- what is left to judge

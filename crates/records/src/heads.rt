@@ -1,29 +1,22 @@
 // Word 0, the places and the heads of the records: an arena's size, the bits that are not named, and the classes.
 ghost use Rattle.std.specs.Prelude.{◌≡◌};
-ghost use Rattle.model.specs.Class.{is_class, every_class};
+ghost use Rattle.model.specs.Class.{every_class};
 ghost use Rattle.model.specs.Sound.{sized, unnamed_zero, classes, every_segment};
 ghost use Rattle.arena.specs.Inside.{Segment};
 ghost use Rattle.records.specs.Judged.{Sized, SizedClass, place_named, head_named, segment_classed};
 
 use crate::zero::zero;
 use arena::{class, head_of, place_of, record_of, segments};
-use words::slices::wide;
 
 // An empty slice has no word 0, and so no segments.
 pub fn sized(arena: &[u32]) -> bool
     ensures { result ≡ sized arena.now }
 {
-    if arena.len() == 0 {
+    if arena.is_empty() {
         return false;
     }
-    let n = wide(segments(arena));
-    if n == 0 {
-        return false;
-    }
-    if 64 < n {
-        return false;
-    }
-    arena.len() == 11 + 4164 * n
+    let n = segments(arena) as usize;
+    (1..=64).contains(&n) && arena.len() == 11 + 4164 * n
 }
 
 fn place_named(arena: &[u32], class: u32) -> bool
@@ -37,12 +30,7 @@ fn places_named(arena: &[u32]) -> bool
     requires { Sized arena.now }
     ensures { result ≡ every_class (place_named arena.now) }
 {
-    for c in 0..10 {
-        if !place_named(arena, c + 3) {
-            return false;
-        }
-    }
-    true
+    (3..=12).all(|class| place_named(arena, class))
 }
 
 fn head_named(arena: &[u32], segment: u32) -> bool
@@ -56,32 +44,14 @@ fn heads_named(arena: &[u32]) -> bool
     requires { Sized arena.now }
     ensures { result ≡ every_segment arena.now (head_named arena.now) }
 {
-    let n = segments(arena);
-    for s in 0..n {
-        if !head_named(arena, s) {
-            return false;
-        }
-    }
-    true
+    (0..segments(arena)).all(|s| head_named(arena, s))
 }
 
 pub fn unnamed_zero(arena: &[u32]) -> bool
     requires { Sized arena.now }
     ensures { result ≡ unnamed_zero arena.now }
 {
-    if arena[0] % 0x100_0000 != 0 {
-        return false;
-    }
-    if !places_named(arena) {
-        return false;
-    }
-    heads_named(arena)
-}
-
-fn is_class(class: u32) -> bool
-    ensures { result ≡ is_class class }
-{
-    3 <= class && class <= 12
+    arena[0] % 0x100_0000 == 0 && places_named(arena) && heads_named(arena)
 }
 
 // A segment has one of the ten classes, or it is in the pool and its whole record is 0.
@@ -89,22 +59,15 @@ fn classed(arena: &[u32], segment: u32) -> bool
     requires { Segment arena.now segment }
     ensures { result ≡ segment_classed arena.now segment }
 {
-    let class = class(arena, segment);
-    if class == 0 {
-        return zero(record_of(arena, segment));
+    match class(arena, segment) {
+        0 => zero(record_of(arena, segment)),
+        class => (3..=12).contains(&class),
     }
-    is_class(class)
 }
 
 pub fn classes(arena: &[u32]) -> bool
     requires { Sized arena.now }
     ensures { result ≡ classes arena.now }
 {
-    let n = segments(arena);
-    for s in 0..n {
-        if !classed(arena, s) {
-            return false;
-        }
-    }
-    true
+    (0..segments(arena)).all(|s| classed(arena, s))
 }

@@ -13,16 +13,15 @@ ghost use Rattle.records.specs.Own.{own_word, word_right, level_right, LowestOf,
 
 use crate::zero::zero;
 use bitmap::levels::word_at;
-use words::bits::with_bit;
+use words::bits::{ones_from, with_bit};
 use words::class::blocks;
-use words::slices::wide;
 
 // How many words hold n bits.
 fn words_for(n: u32) -> u32
     requires { (1 ≤ n) × (n ≤ 2048) }
     ensures { (result ≡ words_for n) × (1 ≤ result) × (result ≤ 64) × (32 * result < n + 32) }
 {
-    (n + 31) / 32
+    n.div_ceil(32)
 }
 
 // How many words a level has above one of n words.
@@ -30,10 +29,7 @@ fn words_above(n: u32) -> u32
     requires { n ≤ 64 }
     ensures { (result ≡ cond (ltb 1 n) (words_for n) 0) × (result ≤ 2) × (32 * result < n + 32) }
 {
-    if n < 2 {
-        return 0;
-    }
-    words_for(n)
+    if n < 2 { 0 } else { words_for(n) }
 }
 
 // How many bits of word j lie before a level's end.
@@ -41,19 +37,7 @@ fn bits_in(end: u32, j: u32) -> u32
     requires { (32 * j < end) × (j < 64) }
     ensures { (result ≡ min 32 (end - 32 * j)) × (1 ≤ result) }
 {
-    let left = end - 32 * j;
-    if left < 32 {
-        return left;
-    }
-    32
-}
-
-// The word that is 1 from bit n on.
-fn padding(n: u32) -> u32
-    requires { (1 ≤ n) × (n ≤ 32) }
-    ensures { result ≡ word_of_bits (λ b. leb n b) }
-{
-    !(0xFFFF_FFFF >> (32 - n))
+    (end - 32 * j).min(32)
 }
 
 // The word with bit b set as well if that word below is full.
@@ -62,9 +46,10 @@ fn with_full(w: u32, b: u32, below: u32) -> u32
     ensures { result ≡ word_of_bits (λ k. (eqb k b && full below) || bit w k) }
 {
     if below == 0xFFFF_FFFF {
-        return with_bit(w, b);
+        with_bit(w, b)
+    } else {
+        w
     }
-    w
 }
 
 // Which of some words are full.
@@ -73,8 +58,8 @@ fn full_words(ws: &[u32]) -> u32
     ensures { result ≡ word_of_bits (λ b. full (word ws.now b)) }
 {
     let mut w: u32 = 0;
-    for b in 0..ws.len() {
-        w = with_full(w, b as u32, ws[b]);
+    for (b, below) in ws.iter().enumerate() {
+        w = with_full(w, b as u32, *below);
     }
     w
 }
@@ -85,7 +70,7 @@ fn full_below(rec: &[u32], level: u32, j: u32, n: u32) -> u32
     ensures { result ≡ word_of_bits (λ b. full (word (part rec.now (level_at (level - 1) + 32 * j) n) b)) }
 {
     let from = word_at(level - 1, 32 * j);
-    let to = from + wide(n);
+    let to = from + n as usize;
     full_words(&rec[from..to])
 }
 
@@ -99,7 +84,7 @@ fn own_word(rec: &[u32], level: u32, words: u32, end: u32, j: u32) -> u32
         return 0;
     }
     let n = bits_in(end, j);
-    full_below(rec, level, j, n) | padding(n)
+    full_below(rec, level, j, n) | ones_from(n)
 }
 
 fn word_right(rec: &[u32], level: u32, words: u32, end: u32, j: u32) -> bool
@@ -114,12 +99,7 @@ fn level_right(rec: &[u32], level: u32, words: u32, end: u32, room: u32) -> bool
     requires { LevelOf rec.now level words end room }
     ensures { result ≡ level_right words end rec.now level }
 {
-    for j in 0..room {
-        if !word_right(rec, level, words, end, j) {
-            return false;
-        }
-    }
-    true
+    (0..room).all(|j| word_right(rec, level, words, end, j))
 }
 
 // Level 0: the padding of its last used word, and zeros behind.
@@ -129,11 +109,8 @@ fn lowest_right(rec: &[u32], words: u32, end: u32) -> bool
 {
     let last = rec[word_at(0, words - 1)];
     let n = bits_in(end, words - 1);
-    if last != last | padding(n) {
-        return false;
-    }
-    let unused = 1 + wide(words);
-    zero(&rec[unused..65])
+    let unused = 1 + words as usize;
+    last == last | ones_from(n) && zero(&rec[unused..65])
 }
 
 // Above level 0 a level ends after as many bits as the level below has words.
@@ -145,11 +122,7 @@ pub fn levels_right(rec: &[u32], class: u32) -> bool
     let words = words_for(end);
     let above = words_above(words);
     let top = words_above(above);
-    if !lowest_right(rec, words, end) {
-        return false;
-    }
-    if !level_right(rec, 1, above, words, 2) {
-        return false;
-    }
-    level_right(rec, 2, top, above, 1)
+    lowest_right(rec, words, end)
+        && level_right(rec, 1, above, words, 2)
+        && level_right(rec, 2, top, above, 1)
 }

@@ -28,26 +28,12 @@ pub mod zero;
 pub fn records_right(arena: &[u32]) -> bool
     ensures { result ≡ records_sound arena.now }
 {
-    if !sized(arena) {
-        return false;
-    }
-    if !unnamed_zero(arena) {
-        return false;
-    }
-    if !classes(arena) {
-        return false;
-    }
-    if !ranks(arena) {
-        return false;
-    }
-    if !levels(arena) {
-        return false;
-    }
-    if !counts(arena) {
-        return false;
-    }
-    if !behind(arena) {
-        return false;
-    }
-    places(arena)
+    sized(arena)
+        && unnamed_zero(arena)
+        && classes(arena)
+        && ranks(arena)
+        && levels(arena)
+        && counts(arena)
+        && behind(arena)
+        && places(arena)
 }

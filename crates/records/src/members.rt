@@ -1,5 +1,5 @@
 // What is asked of each segment that is not in the pool: right levels, a right count, and not to be full behind the place.
-ghost use Rattle.std.specs.Prelude.{◌≡◌, ◌||◌, leb, ltb};
+ghost use Rattle.std.specs.Prelude.{◌≡◌};
 ghost use Rattle.model.specs.Sound.{levels, counts, behind};
 ghost use Rattle.arena.specs.Inside.{Classed};
 ghost use Rattle.records.specs.Judged.{Member, member_levels, member_counts, member_behind};
@@ -15,23 +15,14 @@ fn member_levels(arena: &[u32], segment: u32) -> bool
     ensures { result ≡ member_levels arena.now segment }
 {
     let class = class_of(arena, segment);
-    if class == 0 {
-        return true;
-    }
-    levels_right(record_of(arena, segment), class)
+    class == 0 || levels_right(record_of(arena, segment), class)
 }
 
 pub fn levels(arena: &[u32]) -> bool
     requires { Classed arena.now }
     ensures { result ≡ levels arena.now }
 {
-    let n = segments(arena);
-    for s in 0..n {
-        if !member_levels(arena, s) {
-            return false;
-        }
-    }
-    true
+    (0..segments(arena)).all(|s| member_levels(arena, s))
 }
 
 // Padding is no block, and is not counted.
@@ -40,58 +31,30 @@ fn member_counts(arena: &[u32], segment: u32) -> bool
     ensures { result ≡ member_counts arena.now segment }
 {
     let class = class_of(arena, segment);
-    if class == 0 {
-        return true;
-    }
-    count(arena, segment) == count_bits(record_of(arena, segment), class)
+    class == 0 || count(arena, segment) == count_bits(record_of(arena, segment), class)
 }
 
 pub fn counts(arena: &[u32]) -> bool
     requires { Classed arena.now }
     ensures { result ≡ counts arena.now }
 {
-    let n = segments(arena);
-    for s in 0..n {
-        if !member_counts(arena, s) {
-            return false;
-        }
-    }
-    true
+    (0..segments(arena)).all(|s| member_counts(arena, s))
 }
 
 // A segment ranked behind the place is not full, so that the search behind the place finds a block in it.
-fn not_full_behind(rank: u32, place: u32, count: u32, blocks: u32) -> bool
-    ensures { result ≡ (leb rank place || ltb count blocks) }
-{
-    rank <= place || count < blocks
-}
-
 fn member_behind(arena: &[u32], segment: u32) -> bool
     requires { Member arena.now segment }
     ensures { result ≡ member_behind arena.now segment }
 {
     let class = class_of(arena, segment);
-    if class == 0 {
-        return true;
-    }
-    let place = place_of(arena, class);
-    not_full_behind(
-        rank(arena, segment),
-        place_rank(place),
-        count(arena, segment),
-        blocks(class),
-    )
+    class == 0
+        || rank(arena, segment) <= place_rank(place_of(arena, class))
+        || count(arena, segment) < blocks(class)
 }
 
 pub fn behind(arena: &[u32]) -> bool
     requires { Classed arena.now }
     ensures { result ≡ behind arena.now }
 {
-    let n = segments(arena);
-    for s in 0..n {
-        if !member_behind(arena, s) {
-            return false;
-        }
-    }
-    true
+    (0..segments(arena)).all(|s| member_behind(arena, s))
 }

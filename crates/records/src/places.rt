@@ -13,9 +13,10 @@ fn allowed(m: u32, rank: u32, index: u32, blocks: u32) -> bool
     ensures { result ≡ allowed m rank index blocks }
 {
     if m == 0 {
-        return rank == 0 && index == 0;
+        rank == 0 && index == 0
+    } else {
+        rank < m && index <= blocks
     }
-    rank < m && index <= blocks
 }
 
 fn place_right(arena: &[u32], class: u32) -> bool
@@ -35,10 +36,5 @@ pub fn places(arena: &[u32]) -> bool
     requires { Sized arena.now }
     ensures { result ≡ places arena.now }
 {
-    for c in 0..10 {
-        if !place_right(arena, c + 3) {
-            return false;
-        }
-    }
-    true
+    (3..=12).all(|class| place_right(arena, class))
 }

@@ -8,9 +8,5 @@ ghost use Rattle.model.specs.Word.{word};
 pub fn zero(ws: &[u32]) -> bool
     ensures { result ≡ all_below (length ws.now) (λ j. eqb (word ws.now j) 0) }
 {
-    let mut all: u32 = 0;
-    for j in 0..ws.len() {
-        all |= ws[j];
-    }
-    all == 0
+    ws.iter().fold(0, |all, w| all | w) == 0
 }

@@ -1,5 +1,5 @@
 // Bits of a word, counted from the least significant: what bitmaps are made of.
-ghost use Rattle.std.specs.Prelude.{◌≡◌, not, ◌||◌, ◌-◌, ◌<◌, ◌≤◌, eqb};
+ghost use Rattle.std.specs.Prelude.{◌≡◌, not, ◌||◌, ◌-◌, ◌<◌, ◌≤◌, eqb, leb};
 ghost use Rattle.model.specs.Below.{count_below, first_from};
 ghost use Rattle.model.specs.Word.{bit, word_of_bits};
 
@@ -18,6 +18,13 @@ pub fn with_bit(w: u32, b: u32) -> u32
     w | (1 << b)
 }
 
+// The word that is 1 from bit n on.
+pub fn ones_from(n: u32) -> u32
+    ensures { result ≡ word_of_bits (λ b. leb n b) }
+{
+    u32::MAX.unbounded_shl(n)
+}
+
 // The first bit at or after b that is 0, and 32 where there is none.
 pub fn first_free(w: u32, b: u32) -> u32
     requires { b ≤ 32 }
@@ -26,12 +33,12 @@ pub fn first_free(w: u32, b: u32) -> u32
     if b == 32 {
         return 32;
     }
-    b + u32::trailing_zeros(!(w >> b))
+    b + (!(w >> b)).trailing_zeros()
 }
 
 // How many bits are 1.
 pub fn ones(w: u32) -> u32
     ensures { result ≡ count_below 32 (bit w) }
 {
-    u32::count_ones(w)
+    w.count_ones()
 }

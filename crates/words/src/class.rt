@@ -47,5 +47,5 @@ pub fn class_of(n: u32) -> u32
     if n == 0 {
         return 3;
     }
-    34 - u32::leading_zeros(n)
+    34 - n.leading_zeros()
 }

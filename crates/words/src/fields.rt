@@ -74,7 +74,7 @@ pub fn header(s: Shape) -> u32
     requires { (s.n < 4096) × (s.r < 4096) }
     ensures { result ≡ header_word s.n s.r s.tag }
 {
-    (s.n << 20) + (s.r << 8) + (s.tag as u32)
+    (s.n << 20) + (s.r << 8) + u32::from(s.tag)
 }
 
 pub fn header_n(w: u32) -> u32

@@ -12,9 +12,5 @@ pub fn wide(x: u32) -> usize
 pub fn clear(ws: &mut [u32])
     ensures { ws.new ≡ replicate (length ws.old) 0 }
 {
-    let mut o = 0;
-    while o < ws.len() {
-        ws[o] = 0;
-        o += 1;
-    }
+    ws.fill(0);
 }

@@ -1,20 +1,14 @@
--- `allocation::segments::ranked` meets its contract: no segment passed has the rank. Assumes nothing.
-use mathlib.Core.Path.{◌∙◌}
-use native.Mathlib.Omega.{arith}
+-- `allocation::segments::ranked` meets its contract: what is found is the first that passes. Assumes nothing.
+use Rattle.std.proofs.Common.{◌≡◌, true, false, rules, tests}
+use Rattle.std.proofs.lemmas.Iterator.{first_from_Range}
 use Rattle.model.specs.View.{ranked}
-use Rattle.allocation.proofs.LoopLaws.{none_yet, one_more, one_passes, none_passes}
+use Rattle.records.specs.Judged.{has_rank}
+use Rattle.allocation.proofs.LoopLaws.{first_found}
 use Rattle.allocation.proofs.segments.ranked.Goals as goal
-
-pub loop-s-init : goal.loop-s-init
-loop-s-init c = none_yet _ _
-
-pub returns-then-has_rank : goal.returns-then-has_rank
-unfolding ranked
-returns-then-has_rank c = one_passes c.loop-s.invariant (omega arith) c.has_rank.ensures c.if-has_rank.true
-
-pub loop-s-preserved : goal.loop-s-preserved
-loop-s-preserved c = one_more c.loop-s.invariant (omega arith) c.has_rank.ensures c.if-has_rank.false
 
 pub returns : goal.returns
 unfolding ranked
-returns c = c.segments-n.ensures ∙ none_passes c.loop-s.invariant (omega arith)
+returns c =
+    let a = c.args in
+    first_found _ _ _ _ c.segments.ensures (first_from_Range _ _ _ _ (λ s. has_rank a.arena.now a.class a.rank s ≡ true) (λ s. has_rank a.arena.now a.class a.rank s ≡ false)
+    c.find.ensures.ran (λ x q k. search (rules, tests)) (λ x q k. search (rules, tests)))

@@ -3,17 +3,13 @@
 use Prim.Native.Nat.{ℕ, ◌+◌, ◌-◌, ◌/◌}
 use native.Mathlib.Omega.{arith}
 use mathlib.Core.Path.{◌≡◌, sym, ap, ◌∙◌}
-use lib.ListN.{length-take, length-drop}
 use Rattle.model.specs.Below.{count_below}
 use Rattle.model.specs.Class.{blocks}
 use Rattle.model.specs.Word.{bit}
 use Rattle.model.specs.View.{bit_in}
-use Rattle.words.proofs.ClassLaws.{class_bounds, blocks_most}
+use Rattle.words.proofs.ClassLaws.{blocks_most}
 use Rattle.bitmap.proofs.CountLaws.{count_in_word, count_in_part, whole_words}
 use Rattle.bitmap.proofs.count.count.Goals as goal
-
-pub blocks-n-requires : goal.blocks-n-requires
-blocks-n-requires c = omega (arith, class_bounds c.args.class c.requires.class)
 
 pub returns-then-n-lt32 : goal.returns-then-n-lt32
 returns-then-n-lt32 c =
@@ -27,17 +23,12 @@ returns-then-n-lt32 c =
 pub slice_bounds-ones_in-end : goal.slice_bounds-ones_in-end
 slice_bounds-ones_in-end c = omega (arith, blocks_most c.args.class c.requires.class)
 
-pub ones_in-requires : goal.ones_in-requires
-ones_in-requires c =
-    simp (length-take, length-drop)
-    (omega (arith, blocks_most c.args.class c.requires.class))
-
 pub returns : goal.returns
 returns c =
     let rec = c.args.rec.now in
     let i = c.args.class in
     let p = c.requires in
-    let words : 1 + c.wide-end.result - 1 ≡ blocks i / 32 = omega arith in
+    let words : c.blocks-n.result / 32 + 1 - 1 ≡ blocks i / 32 = omega arith in
     rw words at c.ones_in.ensures
     ∙ count_in_part rec (blocks i / 32) (omega (arith, blocks_most i p.class))
     ∙ ap (λ (n : ℕ). count_below n (bit_in rec)) (sym (whole_words i p.class (omega arith)))

@@ -1,17 +1,11 @@
--- `records::heads::places_named` meets its contract: the loop of LoopLaws, over the ten classes.
+-- `records::heads::places_named` meets its contract: each class is asked.
 -- Assumes nothing.
-use native.Mathlib.Omega.{arith}
-use Rattle.records.proofs.LoopLaws.{none_yet, one_more, one_fails, all_passed}
+use Rattle.std.proofs.Common.{rules}
+use Rattle.records.specs.Judged.{place_named}
+use Rattle.records.proofs.ChainLaws.{classes_passed}
 use Rattle.records.proofs.heads.places_named.Goals as goal
 
-pub loop-c-init : goal.loop-c-init
-loop-c-init c = none_yet _ _
-
-pub returns-then-not-place_named : goal.returns-then-not-place_named
-returns-then-not-place_named c = one_fails c.loop-c.invariant (omega arith) c.place_named.ensures c.if-not-place_named.true-raw
-
-pub loop-c-preserved : goal.loop-c-preserved
-loop-c-preserved c = one_more c.loop-c.invariant (omega arith) c.place_named.ensures c.if-not-place_named.false-raw
-
 pub returns : goal.returns
-returns c = all_passed c.loop-c.invariant (omega arith)
+returns c =
+    classes_passed (place_named c.args.arena.now) _ c.new.ensures.start c.new.ensures.end c.new.ensures.exhausted c.all.ensures.runs
+    (λ x t q k. search rules)

@@ -1,12 +1,13 @@
 -- `records::heads::sized` meets its contract: a slice without words has no segments, and the three tests are those of the definition.
 -- Assumes nothing.
-use Prim.Native.Nat.{ℕ}
+use Prim.Native.Nat.{ℕ, ◌≤◌}
 use mathlib.Core.Path.{◌≡◌, refl}
 use mathlib.Core.Bool.{false}
 use mathlib.Core.List.{List, [], ◌∷◌}
+use Rattle.std.proofs.Common.{rules}
 use native.Mathlib.Omega.{arith}
 use lib.ListN.{length}
-use borrow.Author.Tests.{le-leb, lt-leb}
+use borrow.Author.Tests.{le-leb}
 use Rattle.model.specs.View.{segments}
 use Rattle.model.specs.Sound.{sized}
 use Rattle.records.proofs.heads.sized.Goals as goal
@@ -20,20 +21,16 @@ none : (ws : List ℕ) → segments ws ≡ 0 → false ≡ sized ws
 unfolding sized
 none ws e = rw e
 
-pub returns-then-arena-eq0 : goal.returns-then-arena-eq0
-returns-then-arena-eq0 c = none c.args.arena.now (no_words c.args.arena.now c.if-arena-eq0.true)
+pub returns-then-is_empty : goal.returns-then-is_empty
+returns-then-is_empty c = none c.args.arena.now (no_words c.args.arena.now (search rules))
 
-pub returns-then-n-eq0 : goal.returns-then-n-eq0
-returns-then-n-eq0 c = none c.args.arena.now (omega (arith, c.wide-n.ensures, c.segments.ensures))
-
-pub returns-then-n-gt64 : goal.returns-then-n-gt64
+pub returns-then-contains : goal.returns-then-contains
 unfolding sized
-returns-then-n-gt64 c =
+returns-then-contains c =
     let ws = c.args.arena.now in
-    simp (le-leb 1 (segments ws) (omega arith), lt-leb (segments ws) 64 (omega arith))
+    let inside : (1 ≤ segments ws) × (segments ws ≤ 64) = search rules in
+    simp (le-leb 1 (segments ws) inside.0, le-leb (segments ws) 64 inside.1, c.segments.ensures)
 
-pub returns : goal.returns
+pub returns-else-contains : goal.returns-else-contains
 unfolding sized
-returns c =
-    let ws = c.args.arena.now in
-    simp (le-leb 1 (segments ws) (omega arith), le-leb (segments ws) 64 (omega arith), c.wide-n.ensures, c.segments.ensures)
+returns-else-contains c = search rules

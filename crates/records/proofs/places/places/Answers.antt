@@ -1,20 +1,13 @@
--- `records::places::places` meets its contract: the loop of LoopLaws, over the ten classes.
+-- `records::places::places` meets its contract: each class is asked.
 -- Assumes nothing.
-use native.Mathlib.Omega.{arith}
+use Rattle.std.proofs.Common.{rules}
+use Rattle.model.specs.Sound.{place_right}
 use Rattle.model.specs.Sound.{places}
-use Rattle.records.proofs.LoopLaws.{none_yet, one_more, one_fails, all_passed}
+use Rattle.records.proofs.ChainLaws.{classes_passed}
 use Rattle.records.proofs.places.places.Goals as goal
-
-pub loop-c-init : goal.loop-c-init
-loop-c-init c = none_yet _ _
-
-pub returns-then-not-place_right : goal.returns-then-not-place_right
-unfolding places
-returns-then-not-place_right c = one_fails c.loop-c.invariant (omega arith) c.place_right.ensures c.if-not-place_right.true-raw
-
-pub loop-c-preserved : goal.loop-c-preserved
-loop-c-preserved c = one_more c.loop-c.invariant (omega arith) c.place_right.ensures c.if-not-place_right.false-raw
 
 pub returns : goal.returns
 unfolding places
-returns c = all_passed c.loop-c.invariant (omega arith)
+returns c =
+    classes_passed (place_right c.args.arena.now) _ c.new.ensures.start c.new.ensures.end c.new.ensures.exhausted c.all.ensures.runs
+    (λ x t q k. search rules)

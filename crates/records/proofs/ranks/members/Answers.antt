@@ -1,19 +1,24 @@
--- `records::ranks::members` meets its contract: the counting loop of LoopLaws, over the segments.
+-- `records::ranks::members` meets its contract: of the segments those are counted that pass.
 -- Assumes nothing.
+use Prim.Native.Nat.{ℕ, ◌^◌}
+use mathlib.Core.Path.{ap, ◌∙◌}
 use native.Mathlib.Omega.{arith}
-use Rattle.model.specs.View.{members}
-use Rattle.records.proofs.LoopLaws.{none_counted, one_counted, all_counted}
+use Rattle.std.proofs.Common.{rules, tests}
+use Rattle.std.specs.declared.ops.Range.{Range}
+use Rattle.model.specs.View.{segments, members}
+use Rattle.records.specs.Judged.{has_class}
+use Rattle.records.proofs.ChainLaws.{counted, count_fits}
 use Rattle.records.proofs.ranks.members.Goals as goal
 
-pub loop-s-init : goal.loop-s-init
-loop-s-init c = none_counted _ _
-
-pub overflow_add-m : goal.overflow_add-m
-overflow_add-m c = omega (arith, (one_counted c.loop-s.invariant (omega arith) c.has_class.ensures c.one_if-m.ensures).most)
-
-pub loop-s-preserved : goal.loop-s-preserved
-loop-s-preserved c = one_counted c.loop-s.invariant (omega arith) c.has_class.ensures c.one_if-m.ensures
+pub sum-requires-clause-fits : goal.sum-requires-clause-fits
+sum-requires-clause-fits c =
+    let a = c.args in
+    count_fits (segments a.arena.now) (has_class a.arena.now a.class) (ap (λ (s : Range ℕ). s.start) c.map.ensures.source)
+    (ap (λ (s : Range ℕ). s.end) c.map.ensures.source ∙ c.segments.ensures) c.map.ensures.closure (λ x t q k. search (rules, tests)) (2 ^ 32) (omega (arith, c.requires.few))
 
 pub returns : goal.returns
 unfolding members
-returns c = all_counted c.loop-s.invariant (omega arith)
+returns c =
+    let a = c.args in
+    counted (segments a.arena.now) (has_class a.arena.now a.class) (ap (λ (s : Range ℕ). s.start) c.map.ensures.source)
+    (ap (λ (s : Range ℕ). s.end) c.map.ensures.source ∙ c.segments.ensures) c.map.ensures.closure (λ x t q k. search (rules, tests)) _ c.sum.ensures.ran

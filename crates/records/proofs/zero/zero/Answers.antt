@@ -1,15 +1,15 @@
--- `records::zero::zero` meets its contract: the joining loop of LoopLaws, over the words.
+-- `records::zero::zero` meets its contract: the words joined are 0 exactly if each is (ChainLaws).
 -- Assumes nothing.
-use mathlib.Core.Path.{refl}
-use native.Mathlib.Omega.{arith}
-use Rattle.records.proofs.LoopLaws.{none_joined, one_joined, all_joined}
+use mathlib.Core.Path.{◌≡◌, ap, ◌∙◌}
+use lib.Bits.{bit_or}
+use lib.Dec.{eqb}
+use Prim.Native.Nat.{ℕ}
+use Rattle.std.proofs.Common.{rules}
+use Rattle.std.specs.List.{fold}
+use Rattle.records.proofs.ChainLaws.{joined}
 use Rattle.records.proofs.zero.zero.Goals as goal
 
-pub loop-j-init : goal.loop-j-init
-loop-j-init c = (refl, none_joined _)
-
-pub loop-j-preserved : goal.loop-j-preserved
-loop-j-preserved c = (refl, one_joined c.loop-j.invariant.1 (omega arith))
-
 pub returns : goal.returns
-returns c = all_joined c.loop-j.invariant.1 (omega arith)
+returns c =
+    let is : c.fold.result ≡ fold bit_or 0 c.args.ws.now = search rules in
+    ap (λ (w : ℕ). eqb w 0) is ∙ joined c.args.ws.now

@@ -1,7 +1,7 @@
 -- `words::class::class_of` meets its contract: the leading zeros of an n that is not 0 give its length in bits, and that its class.
 -- Assumes nothing.
 use native.Mathlib.Omega.{arith}
-use lib.Count.{leading_le, leading_length}
+use lib.Count.{leading_length}
 use borrow.Author.Rules.{rules}
 use Rattle.model.specs.Below.{first_from}
 use Rattle.model.specs.Class.{class_of}
@@ -11,9 +11,6 @@ use Rattle.words.proofs.class.class_of.Goals as goal
 pub returns-then-n-eq0 : goal.returns-then-n-eq0
 unfolding class_of first_from
 returns-then-n-eq0 c = rw c.if-n-eq0.true
-
-pub overflow_sub-result : goal.overflow_sub-result
-overflow_sub-result c = omega (arith, leading_le 32 c.args.n)
 
 pub returns : goal.returns
 returns c =
