@@ -5,14 +5,13 @@ use mathlib.Core.Path.{◌≡◌, sym, ap, ap₂, ◌∙◌, subst}
 use mathlib.Core.Bool.{true, false, ◌||◌}
 use mathlib.Core.List.{List, [], ◌∷◌}
 use native.Mathlib.Omega.{arith}
-use Rattle.std.proofs.Common.{Option, Some, None}
+use Rattle.std.proofs.Common.{Option, Some, None, Err}
 use borrow.Author.Tests.{le-ltb}
 use Rattle.model.specs.Class.{is_class, class_of}
 use Rattle.model.specs.Layout.{handle}
 use Rattle.model.specs.Calls.{class_has_untaken, has_pool, given_segment, given_index, allocated, allocate_refusal, Allocate}
-use Rattle.model.specs.Numbers.{paper, allocated_paper}
-use Rattle.model.specs.declared.Allocated.{Allocated}
-use Rattle.model.specs.declared.Allocated.TheVariants.{NoRoom as no_room}
+use Rattle.model.specs.Numbers.{Allocated, paper, allocated_paper}
+use Rattle.model.specs.declared.Refusal.TheVariants.{NoRoom as no_room}
 use Rattle.words.proofs.ClassLaws.{blocks_most}
 use Rattle.soundness.proofs.Tests.{or_left, or_right, or_fails}
 use Rattle.soundness.proofs.Facts.{Sound, sound_facts}
@@ -43,7 +42,7 @@ module _ (ws : List ℕ) (n r : ℕ) (h : Allowed ws n r) where
     words = rw (granted t) ew;
   }
 
-  none_outcome : (tag : ℕ) → (class_has_untaken ws (class_of n) || has_pool ws) ≡ false → Allocate ws n r tag no_room ws
+  none_outcome : (tag : ℕ) → (class_has_untaken ws (class_of n) || has_pool ws) ≡ false → Allocate ws n r tag (Err no_room) ws
   none_outcome tag t = record { answered = rw (refused t); words = rw (refused t) }
 
 -- ---- what the search asks
@@ -112,7 +111,7 @@ module _ {ws : List ℕ} {n r i : ℕ} {found : Option Found} (s : Searched ws n
         (told_is spot a joins.2 told) ew
 
   -- neither
-  pub none_given : (tag : ℕ) → found ≡ None → Allocate ws n r tag no_room ws
+  pub none_given : (tag : ℕ) → found ≡ None → Allocate ws n r tag (Err no_room) ws
   none_given tag is =
       let none : (class_has_untaken ws i ≡ false) × (has_pool ws ≡ false) = subst (Finds ws i) is s.finds in
       none_outcome ws n r s.allowed tag (or_fails (class_has_untaken ws (class_of n)) (has_pool ws) (same_has ∙ none.0) none.1)

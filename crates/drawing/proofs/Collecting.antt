@@ -1,28 +1,24 @@
 -- What a collection goes by: the roots as the taken row tells them, and the list of a trace. Assumes nothing.
-use Prim.Native.Nat.{ℕ}
+use Prim.Native.Nat.{ℕ, ◌≤◌}
 use native.Mathlib.Omega.{arith}
 use mathlib.Core.Path.{◌≡◌, refl, sym, ap, ◌∙◌}
-use mathlib.Core.Bool.{Bool, false, ◌||◌}
-use mathlib.Core.List.{List, [], ◌∷◌}
+use mathlib.Core.Bool.{Bool, true, false, not, ◌||◌}
+use mathlib.Core.List.{List}
 use lib.ListN.{length, get_or, take}
-use lib.Dec.{eqb}
-use borrow.Author.Tests.{eqb-false, ne_eqb}
+use lib.Dec.{ltb}
+use borrow.Author.Tests.{ne_eqb, ltb-false}
 use Rattle.model.specs.Below.{all_below}
 use Rattle.model.specs.Standing.{none_or_taken, taken_count}
 use Rattle.model.specs.Ways.{listed}
-use Rattle.model.specs.Numbers.{collected_paper}
-use Rattle.model.specs.Calls.{collect_refusal, Granted, Collect}
-use Rattle.model.specs.declared.Collected.{Collected}
-use Rattle.model.specs.declared.Collected.TheVariants.{Live}
-use Rattle.laws.proofs.Below.{all_below_at, all_below_ext}
+use Rattle.model.specs.Sound.{sound}
+use Rattle.model.specs.Numbers.{refuse}
+use Rattle.model.specs.Calls.{collect_refusal}
+use Rattle.laws.proofs.Below.{all_below_at}
 use Rattle.soundness.proofs.Facts.{sound_facts}
 use Rattle.kept.proofs.Reached.{reachable_taken}
-use Rattle.taken.specs.Row.{TakenRow, row_none_or_taken}
-use Rattle.taken.proofs.RowLaws.{row_none_or_taken_is}
 use Rattle.trace.specs.Trace.{Traceable, Traced}
 use Rattle.ranking.specs.Anew.{Reached}
 use Rattle.ways.proofs.Reach.{listed_reachable}
-use Rattle.drawing.proofs.RefusalNumbers.{collect_may}
 
 -- the marks of a trace are those of taken blocks alone
 pub reached : {ws roots list marks list' marks' : List ℕ} {most c : ℕ} → Traceable ws roots list marks most → Traced ws roots list c list' marks'
@@ -36,32 +32,18 @@ reached {ws} {roots} {list' = list'} {c = c} may done same = record {
       (all_below_at (length roots) (λ p. none_or_taken ws (get_or roots p 0)) may.right_roots) h ((listed_reachable done.listing h).0 in_List);
 }
 
--- what the taken row says of the roots is what the arena says
-pub roots_by_row : {ws row : List ℕ} (roots : List ℕ) → TakenRow ws row
-    → all_below (length roots) (λ p. row_none_or_taken row (get_or roots p 0)) ≡ all_below (length roots) (λ p. none_or_taken ws (get_or roots p 0))
-roots_by_row {ws} {row} roots t =
-    all_below_ext (length roots) (λ p. row_none_or_taken row (get_or roots p 0)) (λ p. none_or_taken ws (get_or roots p 0))
-    (λ p _. row_none_or_taken_is t (get_or roots p 0))
-
--- ---- how collect's promise is shown, of a refusal and of a grant
-
-pub collect_refused : (a : Collected) (ws roots list : List ℕ) (k : ℕ) → collect_refusal ws roots list ≡ k → eqb k 0 ≡ false
-    → collected_paper a ≡ record { number = k; values = 0 ∷ [] } → Collect ws roots list a ws list
-collect_refused a ws roots list k same some said = record {
-  live_count = 0;
-  answered = said ∙ (rw (same, some));
-  refused = λ _. (refl, refl);
-  collected_so = λ none. absurd (eqb-false k 0 some (sym same ∙ none));
-}
-
-pub collect_live : (ws roots list ws' list' : List ℕ) (c : ℕ) → collect_refusal ws roots list ≡ 0 → Granted ws roots list c ws' list'
-    → Collect ws roots list (Live c) ws' list'
-collect_live ws roots list ws' list' c none g = record {
-  live_count = c;
-  answered = rw none;
-  refused = λ some. absurd (some none);
-  collected_so = λ _. g;
-}
+-- what holds where a collection is not refused
+collect_may : (ws roots list : List ℕ) → collect_refusal ws roots list ≡ 0
+    → (sound ws ≡ true) × (all_below (length roots) (λ p. none_or_taken ws (get_or roots p 0)) ≡ true) × (taken_count ws ≤ length list)
+unfolding collect_refusal
+collect_may ws roots list = go (sound ws) (all_below (length roots) (λ p. none_or_taken ws (get_or roots p 0))) (ltb (length list) (taken_count ws)) (ltb-false (length list) (taken_count ws))
+  where
+    go : (a b c : Bool) → (c ≡ false → taken_count ws ≤ length list) → refuse 2 (not a) (refuse 8 (not b) (refuse 9 c 0)) ≡ 0
+        → (a ≡ true) × (b ≡ true) × (taken_count ws ≤ length list)
+    go false b c f e = absurd (omega arith)
+    go true false c f e = absurd (omega arith)
+    go true true true f e = absurd (omega arith)
+    go true true false f e = (refl, refl, f refl)
 
 -- a collection that is not refused may be traced, with a row of 4,097 words for marks
 pub traceable : (ws roots list marks : List ℕ) (taken : ℕ) → collect_refusal ws roots list ≡ 0 → length marks ≡ 4097 → taken ≡ taken_count ws

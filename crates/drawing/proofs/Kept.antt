@@ -12,9 +12,8 @@ use Rattle.model.specs.Layout.{handle, segment_of, index_of}
 use Rattle.model.specs.View.{block_of, block, n_in, r_in}
 use Rattle.model.specs.Standing.{is_block, is_taken, none_or_taken, taken_count}
 use Rattle.model.specs.Sound.{sound}
-use Rattle.model.specs.Numbers.{refuse, written_paper}
+use Rattle.model.specs.Numbers.{Written, refuse, written_paper}
 use Rattle.model.specs.Calls.{WriteReference, WritePlain}
-use Rattle.model.specs.declared.Written.{Written}
 use Rattle.words.proofs.HandleLaws.{handle_back}
 use Rattle.soundness.proofs.Facts.{block_facts, sound_facts, facts_sound}
 use Rattle.soundness.proofs.Taken.{handle_facts}

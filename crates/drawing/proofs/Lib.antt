@@ -4,12 +4,6 @@ pub mod Kept
 pub mod LookLaws
 pub mod Made
 pub mod Outcomes
-pub mod PlaceLaws
-pub mod PutLaws
-pub mod RefusalNumbers
-pub mod Refusals
 pub mod RoomLaws
 pub mod Runs
-pub mod Sizes
-pub mod StandingLaws
 pub mod Unique

@@ -1,13 +1,13 @@
 -- Room of a class by the taken row: the ones of a segment's 64 words are its taken blocks, and what is left of its blocks is untaken.
 -- Assumes nothing.
-use Prim.Native.Nat.{ℕ, ◌+◌, ◌-◌, ◌*◌, ◌≤◌, ◌<◌}
+use Prim.Native.Nat.{ℕ, zero, suc, ◌+◌, ◌-◌, ◌*◌, ◌^◌, ◌≤◌, ◌<◌}
 use native.Mathlib.Nat.{add-sub_of_le}
 use native.Mathlib.Omega.{arith}
-use mathlib.Core.Bool.{Bool, not, cond}
+use mathlib.Core.Bool.{Bool, true, false, not, cond}
 use mathlib.Core.List.{List}
-use mathlib.Core.Logic.{◌≢◌}
 use mathlib.Core.Path.{◌≡◌, refl, sym, ap, ap₂, ◌∙◌}
-use borrow.Author.Tests.{eq-eqb, ne_eqb}
+use lib.Dec.{eqb}
+use borrow.Author.Tests.{eq-eqb}
 use Rattle.model.specs.Below.{count_below, sum_below}
 use Rattle.model.specs.Word.{word, bit}
 use Rattle.model.specs.Class.{blocks}
@@ -21,7 +21,12 @@ use Rattle.soundness.proofs.Taken.{past_untaken}
 use Rattle.arena.specs.Rows.{row_bit}
 use Rattle.taken.specs.Row.{TakenRow}
 use Rattle.taken.proofs.RowLaws.{is_taken_at, row_bit_taken}
-use Rattle.drawing.specs.Rooms.{room_in, SegmentRoom}
+use Rattle.std.specs.List.{range_with_len}
+use Rattle.std.proofs.lemmas.List.FromFn.{sum_by-map-range_with_len_more}
+use Rattle.std.proofs.Common.{sum, sum_by, map, get_or-drop, add-one}
+use Rattle.std.proofs.lemmas.List.Sums.{sum_by_more}
+use lib.ListN.{length, take, drop, length-drop}
+use Rattle.drawing.specs.Rooms.{room_in}
 
 -- ---- the words of a segment
 
@@ -38,6 +43,17 @@ count_more row s j =
     ∙ ap (λ (c : ℕ). count_below (32 * j) (segment_bit row s) + c)
     (count_below_ext 32 (λ k. segment_bit row s (32 * j + k)) (bit (word row (1 + 64 * s + j)))
     (λ k l. ap₂ (λ (p b : ℕ). bit (word row p) b) (omega arith) (omega arith)))
+
+-- and of all words of n, one by one
+pub count_words : (row : List ℕ) (s n : ℕ) → 1 + 64 * s + n ≤ length row
+    → sum_by (λ w. count_below 32 (bit w)) (take n (drop (1 + 64 * s) row)) ≡ count_below (32 * n) (segment_bit row s)
+unfolding count_below
+count_words row s zero l = refl
+count_words row s (suc n) l =
+    ap (λ (m : ℕ). sum_by (λ w. count_below 32 (bit w)) (take m (drop (1 + 64 * s) row))) (sym (add-one n))
+    ∙ sum_by_more (λ w. count_below 32 (bit w)) (drop (1 + 64 * s) row) n 0 (simp length-drop (omega arith))
+    ∙ ap₂ ◌+◌ (count_words row s n (omega arith)) (ap (λ (w : ℕ). count_below 32 (bit w)) (get_or-drop (1 + 64 * s) row n 0))
+    ∙ sym (count_more row s n) ∙ ap (λ (m : ℕ). count_below (32 * m) (segment_bit row s)) (add-one n)
 
 -- ---- untaken blocks
 
@@ -63,23 +79,37 @@ module _ (ws row : List ℕ) (s i : ℕ) (t : TakenRow ws row) (there : s < segm
   pub ones_within : count_below 2048 (segment_bit row s) ≤ blocks i
   ones_within = omega (arith, ones_taken, count_below_le (blocks i) (taken_at ws s))
 
-  pub own_room : (r : ℕ) → r ≡ blocks i - count_below 2048 (segment_bit row s) → SegmentRoom ws s i r
-  own_room r e = record {
-    right =
-        omega (arith, ones_taken, count_below_not (blocks i) (taken_at ws s))
-        ∙ ap (λ (t : Bool). cond t (count_below (blocks i) (λ k. not (taken_at ws s k))) 0) (sym (eq-eqb (class ws s) i own));
-    most = omega (arith, most);
-  }
-
--- a segment of another class gives none
-pub no_room : (ws : List ℕ) (s i : ℕ) → class ws s ≢ i → SegmentRoom ws s i 0
-no_room ws s i apart = record {
-  right = ap (λ (t : Bool). cond t (count_below (blocks i) (λ k. not (taken_at ws s k))) 0) (sym (ne_eqb (class ws s) i apart));
-  most = omega arith;
-}
+  pub own_room : blocks i - count_below 2048 (segment_bit row s) ≡ room_in ws i s
+  own_room =
+      omega (arith, ones_taken, count_below_not (blocks i) (taken_at ws s))
+      ∙ ap (λ (t : Bool). cond t (count_below (blocks i) (λ k. not (taken_at ws s k))) 0) (sym (eq-eqb (class ws s) i own))
 
 -- ---- the segments together
 
-pub room_sum : (ws : List ℕ) (i : ℕ) → sum_below (segments ws) (room_in ws i) ≡ room ws i
-unfolding room
-room_sum ws i = refl
+room_most : (ws : List ℕ) (i s : ℕ) → 3 ≤ i → i ≤ 12 → room_in ws i s ≤ 2048
+room_most ws i s low high = go (eqb (class ws s) i)
+  where
+    go : (t : Bool) → cond t (count_below (blocks i) (λ k. not (taken_at ws s k))) 0 ≤ 2048
+    go true = omega (arith, count_below_le (blocks i) (λ k. not (taken_at ws s k)), blocks_most i (bounds_class i low high))
+    go false = omega arith
+
+module _ (ws : List ℕ) (i : ℕ) (low : 3 ≤ i) (high : i ≤ 12) where
+  all_rooms : (n : ℕ) → sum (map (room_in ws i) (range_with_len 0 n)) ≡ sum_below n (room_in ws i)
+  unfolding sum_below
+  all_rooms zero = refl
+  all_rooms (suc n) =
+      ap (λ (m : ℕ). sum (map (room_in ws i) (range_with_len 0 m))) (sym (add-one n))
+      ∙ sum_by-map-range_with_len_more (λ x. x) (room_in ws i) 0 n n (omega arith)
+      ∙ ap (λ (r : ℕ). r + room_in ws i n) (all_rooms n)
+
+  few_rooms : (n : ℕ) → sum_below n (room_in ws i) ≤ 2048 * n
+  unfolding sum_below
+  few_rooms zero = omega arith
+  few_rooms (suc n) = omega (arith, few_rooms n, room_most ws i n low high)
+
+  pub room_sum : sum (map (room_in ws i) (range_with_len 0 (segments ws))) ≡ room ws i
+  unfolding room
+  room_sum = all_rooms (segments ws)
+
+  pub room_few : segments ws ≤ 64 → sum (map (room_in ws i) (range_with_len 0 (segments ws))) < 2 ^ 32
+  room_few few = omega (arith, all_rooms (segments ws), few_rooms (segments ws))

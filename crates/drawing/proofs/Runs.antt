@@ -7,23 +7,20 @@ use mathlib.Core.Path.{◌≡◌, refl, sym, ap, ap₂, ◌∙◌, subst}
 use mathlib.Core.Logic.{◌≢◌}
 use mathlib.Core.Bool.{Bool, true, false, not, cond, ◌&&◌, ◌||◌, true≢false}
 use mathlib.Core.List.{List, [], ◌∷◌}
+use Rattle.std.specs.Prelude.{Ok}
 use lib.ListN.{length, get_or, take}
 use lib.Seq.{length-take-le}
 use lib.Dec.{eqb, leb, ltb}
 use borrow.Author.Tests.{leb-true, eq-eqb, ne_eqb}
+use Rattle.model.specs.Below.{all_below}
 use Rattle.model.specs.Class.{is_class, class_of}
 use Rattle.model.specs.Layout.{arena_length, handle}
 use Rattle.model.specs.View.{block, n_in, r_in}
 use Rattle.model.specs.Standing.{is_taken, none_or_taken, taken_count}
 use Rattle.model.specs.Sound.{sound}
-use Rattle.model.specs.Numbers.{Paper, paper, refuse, made_paper, allocated_paper, collected_paper}
+use Rattle.model.specs.Numbers.{Made, Allocated, Collected, Paper, paper, refuse, made_paper, allocated_paper, collected_paper}
 use Rattle.model.specs.Calls.{block_refusal, Make, make_refusal, Allocate, allocate_refusal, class_has_untaken, has_pool, given_segment, given_index, Collect, collect_refusal}
-use Rattle.model.specs.declared.Made.{Made}
-use Rattle.model.specs.declared.Made.TheVariants.{Fresh, BadSize}
 use Rattle.model.specs.declared.Handle.{Handle}
-use Rattle.model.specs.declared.Allocated.{Allocated}
-use Rattle.model.specs.declared.Allocated.TheVariants.{Block}
-use Rattle.model.specs.declared.Collected.{Collected}
 use Rattle.growth.proofs.After.{granted_facts}
 use Rattle.growth.proofs.Taken.{handle_taken, taken_count_after, still_taken, taken_not_given}
 use Rattle.growth.proofs.Sound.{granted_sound}
@@ -31,8 +28,6 @@ use Rattle.kept.proofs.Reached.{granted_collection, leaves_sound}
 use Rattle.kept.proofs.Counted.{taken_after_collection}
 use Rattle.drawing.specs.Runs.{Call, make, allocate, standing, shape, read_reference, write_reference, read_plain, write_plain, plain_words, room, collect, number, Calls, no_call, next, Run, Event, begins, allocates, collects, other, event_if_granted, event, c_after, last_c, since_after, allocations_since, frees, NoneFreed}
 use Rattle.drawing.proofs.Outcomes.{number_is, words_granted, words_refused, words_read}
-use Rattle.drawing.proofs.Refusals.{judged}
-use Rattle.drawing.proofs.RefusalNumbers.{roots_right}
 use Rattle.drawing.proofs.Made.{made_sound, made_none_taken}
 use Rattle.drawing.proofs.Kept.{Kept, kept_reference, kept_plain}
 
@@ -156,7 +151,7 @@ module _ {ws : List ℕ} (s : sound ws ≡ true) where
 
 module _ {ws : List ℕ} (run : Run ws) where
   begun : Left run.slice run.made begins
-  begun = left_by_make run.N Fresh run.start refl
+  begun = left_by_make run.N (Ok tt) run.start refl
 
   pub run_sound : sound ws ≡ true
   run_sound = calls_sound begun.still_sound run.calls
@@ -171,13 +166,12 @@ other_than : (e x : ℕ) (t : Bool) → e ≢ 2 → x ≢ 2 → refuse e t x ≢
 other_than e x true apart rest = apart
 other_than e x false apart rest = rest
 
-made_number : (a : Made) → (made_paper a).number ≢ 2
-made_number Fresh two = omega (arith, two)
-made_number BadSize two = omega (arith, two)
-
 module _ (ws : List ℕ) (s : sound ws ≡ true) where
+  judged : (x : ℕ) → refuse 2 (not (sound ws)) x ≡ x
+  judged x = rw s
+
   not_two : (x e : ℕ) → e ≡ refuse 2 (not (sound ws)) x → x ≢ 2 → e ≢ 2
-  not_two x e same apart two = apart (sym (judged ws x s) ∙ sym same ∙ two)
+  not_two x e same apart two = apart (sym (judged x) ∙ sym same ∙ two)
 
   not_two_handle : (h x e : ℕ) → e ≡ block_refusal ws h x → x ≢ 2 → e ≢ 2
   not_two_handle h x e same apart =
@@ -188,6 +182,11 @@ module _ (ws : List ℕ) (s : sound ws ≡ true) where
 
   zero : ◌≢◌ {A = ℕ} 0 2
   zero z = omega (arith, z)
+
+  not_two_make : (N e : ℕ) → e ≡ make_refusal ws N → e ≢ 2
+  unfolding make_refusal
+  not_two_make N e same two =
+      other_than 1 0 (not (leb 1 N && (leb N 64 && eqb (length ws) (arena_length N)))) (λ z. omega arith) zero (sym same ∙ two)
 
   not_two_allocate : (n r e : ℕ) → e ≡ allocate_refusal ws n r → e ≢ 2
   unfolding allocate_refusal
@@ -200,13 +199,13 @@ module _ (ws : List ℕ) (s : sound ws ≡ true) where
   not_two_collect : (roots list : List ℕ) (e : ℕ) → e ≡ collect_refusal ws roots list → e ≢ 2
   unfolding collect_refusal
   not_two_collect roots list e same =
-      let bad : Bool = not (roots_right ws roots) in
+      let bad : Bool = not (all_below (length roots) (λ p. none_or_taken ws (get_or roots p 0))) in
       let short : Bool = ltb (length list) (taken_count ws) in
       not_two (refuse 8 bad (refuse 9 short 0)) e same
       (other_than 8 (refuse 9 short 0) bad (λ z. omega arith) (other_than 9 0 short (λ z. omega arith) zero))
 
   pub sound_not_two : {ws' : List ℕ} (call : Call ws ws') → number call ≢ 2
-  sound_not_two (make N a p) = made_number a
+  sound_not_two (make N a p) = not_two_make N _ (number_is p)
   sound_not_two (allocate n r tag a byte p) = not_two_allocate n r _ (number_is p)
   sound_not_two (standing h a p) = not_two 0 _ (number_is p) zero
   sound_not_two (shape h a p) = not_two_handle h 0 _ (number_is p) zero
@@ -227,7 +226,7 @@ run_not_two run = sound_not_two _ (run_sound run)
 -- ---- what was given is not given again before it is freed
 
 -- the handle of a granted allocation
-given : {ws : List ℕ} (n r tag : ℕ) (h : Handle) {ws' : List ℕ} → Allocate ws n r tag (Block h) ws'
+given : {ws : List ℕ} (n r tag : ℕ) (h : Handle) {ws' : List ℕ} → Allocate ws n r tag (Ok h) ws'
     → h.0 ≡ handle (given_segment ws (class_of n)) (given_index ws (class_of n))
 given {ws} n r tag h p =
     let x = handle (given_segment ws (class_of n)) (given_index ws (class_of n)) in
@@ -239,12 +238,12 @@ calls_held s no_call _ h t = t
 calls_held s (next before call) (held, none) h t = (left call (calls_sound s before)).held none h (calls_held s before held h t)
 
 -- two granted allocations with none of these between them give two handles
-pub handles_differ : {ws ws' ws'' ws''' : List ℕ} (n r tag : ℕ) (h : Handle) → tag < 256 → Allocate ws n r tag (Block h) ws'
+pub handles_differ : {ws ws' ws'' ws''' : List ℕ} (n r tag : ℕ) (h : Handle) → tag < 256 → Allocate ws n r tag (Ok h) ws'
     → (calls : Calls ws' ws'') → NoneFreed calls
-    → (n' r' tag' : ℕ) (h' : Handle) → tag' < 256 → Allocate ws'' n' r' tag' (Block h') ws''' → h.0 ≢ h'.0
+    → (n' r' tag' : ℕ) (h' : Handle) → tag' < 256 → Allocate ws'' n' r' tag' (Ok h') ws''' → h.0 ≢ h'.0
 handles_differ {ws} {ws'} {ws''} n r tag h byte p calls held n' r' tag' h' byte' p' same =
     let g = granted_facts ws n r tag byte (sym (number_is p)) in
     let g' = granted_facts ws'' n' r' tag' byte' (sym (number_is p')) in
     let taken : is_taken ws' h.0 ≡ true = ap₂ is_taken (words_granted p refl) (given n r tag h p) ∙ handle_taken ws n r tag g in
-    let sound' = (left_by_allocate n r tag (Block h) byte p refl).still_sound in
+    let sound' = (left_by_allocate n r tag (Ok h) byte p refl).still_sound in
     taken_not_given ws'' n' r' tag' g' h.0 (calls_held sound' calls held h.0 taken) (same ∙ given n' r' tag' h' p')

@@ -1,7 +1,6 @@
 pub mod Fields
 pub mod Look
 pub mod Place
-pub mod Put
 pub mod Refusal
 pub mod Rooms
 pub mod Runs

@@ -1,17 +1,8 @@
 -- A run: a granted make, and then any public calls on the arena, each finding the words as the one before left them.
 -- Assumes nothing.
-use Rattle.std.specs.Prelude.{ℕ, ◌+◌, ◌<◌, Bool, true, false, cond, List, ◌≡◌, eqb, get_or}
-use Rattle.model.specs.Numbers.{granted, made_paper, allocated_paper, stood_paper, shaped_paper, read_paper, written_paper, room_paper, collected_paper}
+use Rattle.std.specs.Prelude.{ℕ, ◌+◌, ◌<◌, Bool, true, false, cond, List, ◌≡◌, eqb, get_or, Ok}
+use Rattle.model.specs.Numbers.{Made, Allocated, Stood, Shaped, Read, Written, Room, Collected, granted, made_paper, allocated_paper, stood_paper, shaped_paper, read_paper, written_paper, room_paper, collected_paper}
 use Rattle.model.specs.Calls.{block_refusal, Make, Allocate, AskStanding, AskShape, ReadReference, WriteReference, ReadPlain, WritePlain, PlainWords, AskRoom, Collect}
-use Rattle.model.specs.declared.Made.{Made}
-use Rattle.model.specs.declared.Made.TheVariants.{Fresh}
-use Rattle.model.specs.declared.Allocated.{Allocated}
-use Rattle.model.specs.declared.Stood.{Stood}
-use Rattle.model.specs.declared.Shaped.{Shaped}
-use Rattle.model.specs.declared.Read.{Read}
-use Rattle.model.specs.declared.Written.{Written}
-use Rattle.model.specs.declared.Room.{Room}
-use Rattle.model.specs.declared.Collected.{Collected}
 
 -- A public call that finds the words ws and leaves ws': its arguments, its answer, and that they meet its promise, granted or refused.
 pub data Call (ws ws' : List ℕ) : Type 0 where
@@ -50,7 +41,7 @@ pub record Run (ws' : List ℕ) : Type 0 where
   pub slice : List ℕ
   pub N : ℕ
   pub made : List ℕ
-  pub start : Make slice N Fresh made
+  pub start : Make slice N (Ok tt) made
   pub calls : Calls made ws'
 
 -- What a call is in the count of taken blocks: the arena is made anew, one block is allocated, a collection answers c, or none of these.

@@ -1,63 +1,53 @@
 // Allocating a block.
-ghost use Rattle.std.specs.Prelude.{◌≡◌, [], ◌∷◌, ◌<◌};
+ghost use Rattle.std.specs.Prelude.{◌≡◌, ◌<◌};
 ghost use Rattle.model.specs.Layout.{handle};
-ghost use Rattle.model.specs.Numbers.{paper, granted, allocated_paper};
 ghost use Rattle.model.specs.Calls.{Allocate};
 ghost use Rattle.allocation.specs.Gifts.{Allowed};
 
+use crate::look::judged;
 use allocation::find::{Found, Spot, find};
 use allocation::give::{give, give_joining};
-use judge::judge;
-use model::{Allocated, Shape};
+use model::{Handle, Refusal, Shape};
 use words::class::class_of;
 use words::handles::handle;
 
-// The answer that gives the block of a spot: its handle.
-fn given(spot: Spot) -> Allocated
+// The handle of the block of a spot.
+fn given(spot: Spot) -> Handle
     requires { (spot.segment < 64) × (spot.index.0 < 2048) }
-    ensures { allocated_paper result ≡ paper granted (handle spot.segment spot.index.0 ∷ []) }
+    ensures { result.0 ≡ handle spot.segment spot.index.0 }
 {
-    Allocated::Block(handle(spot.segment, spot.index))
+    handle(spot.segment, spot.index)
 }
 
 // What is left once neither refusal 2 nor 3 applies: the first untaken block of the class, or block 0 of a
 // segment that joins, or no room.
-fn allocate_sound(arena: &mut [u32], n: u32, r: u32, tag: u8) -> Allocated
-    requires { Allowed arena.old n r }
-    ensures { Allocate arena.old n r tag result arena.new }
+fn allocate_sound(arena: &mut [u32], shape: Shape) -> Result<Handle, Refusal>
+    requires { Allowed arena.old shape.n shape.r }
+    ensures { Allocate arena.old shape.n shape.r shape.tag result arena.new }
 {
-    let class = class_of(n);
-    let shape = Shape {
-        n: n,
-        r: r,
-        tag: tag,
-    };
+    let class = class_of(shape.n);
     match find(arena, class) {
         Some(Found::Here(spot)) => {
             give(arena, class, spot, shape);
-            given(spot)
+            Ok(given(spot))
         }
         Some(Found::Joins(spot)) => {
             give_joining(arena, class, spot, shape);
-            given(spot)
+            Ok(given(spot))
         }
-        None => Allocated::NoRoom,
+        None => Err(Refusal::NoRoom),
     }
 }
 
 // The first untaken block of the class of n, with its header, 0 up to its end.
-pub fn allocate(arena: &mut [u32], n: u32, r: u32, tag: u8) -> Allocated
+#[tactic(auto, unfolding(model::specs::Calls::allocate_refusal))]
+pub fn allocate(arena: &mut [u32], n: u32, r: u32, tag: u8) -> Result<Handle, Refusal>
     ensures { Allocate arena.old n r tag result arena.new }
 {
     let mut row = [0u32; 8192];
-    if !judge(arena, &mut row) {
-        return Allocated::Unsound;
+    judged(arena, &mut row)?;
+    if 1023 < n || n < r {
+        return Err(Refusal::BadShape);
     }
-    if 1023 < n {
-        return Allocated::BadShape;
-    }
-    if n < r {
-        return Allocated::BadShape;
-    }
-    allocate_sound(arena, n, r, tag)
+    allocate_sound(arena, Shape { n, r, tag })
 }

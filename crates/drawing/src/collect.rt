@@ -1,16 +1,12 @@
 // Collecting.
-ghost use Rattle.std.specs.Prelude.{◌≡◌};
 ghost use Rattle.model.specs.Calls.{Granted, Collect};
 ghost use Rattle.trace.specs.Trace.{Traceable};
 ghost use Rattle.drawing.specs.Refusal.{CollectRefusal};
 
-use arena::segments;
-use judge::judge;
-use model::Collected;
+use crate::look::judged;
+use model::Refusal;
 use ranking::rank_anew;
-use taken::ask::{all_none_or_taken, taken_count};
 use trace::trace;
-use words::slices::wide;
 
 // What is left once no refusal applies: the list, then the records and places that follow from it.
 fn collect_sound(
@@ -28,52 +24,29 @@ fn collect_sound(
     c
 }
 
-// The refusal of a collection, 0 if there is none, and then how many blocks are taken.
-#[derive(Clone, Copy)]
-pub struct Verdict {
-    pub number: u32,
-    pub taken: usize,
-}
-
-fn refused(number: u32) -> Verdict
-    ensures { result.number ≡ number }
-{
-    Verdict { number, taken: 0 }
-}
-
-// With a work list of so many words.
-fn refusal(arena: &[u32], roots: &[u32], room: usize) -> Verdict
-    ensures { CollectRefusal arena.now roots.now room result.number result.taken }
+// How many blocks are taken, unless a collection with a work list of so many words is refused.
+#[tactic(auto, unfolding(model::specs::Calls::collect_refusal))]
+fn refusal(arena: &[u32], roots: &[u32], room: usize) -> Result<usize, Refusal>
+    ensures { CollectRefusal arena.now roots.now room result }
 {
     let mut row = [0u32; 8192];
-    if !judge(arena, &mut row) {
-        return refused(2);
+    let judged = judged(arena, &mut row)?;
+    if !judged.all_none_or_taken(roots) {
+        return Err(Refusal::BadRoot);
     }
-    if !all_none_or_taken(&row, roots) {
-        return refused(8);
-    }
-    let taken = wide(taken_count(&row, segments(arena)));
+    let taken = judged.taken_count() as usize;
     if room < taken {
-        return refused(9);
+        return Err(Refusal::ShortList);
     }
-    Verdict { number: 0, taken }
+    Ok(taken)
 }
 
 // Lists the reachable blocks in drawing order and frees the others. All that may refuse is asked before any
 // word is altered.
-pub fn collect(arena: &mut [u32], roots: &[u32], list: &mut [u32]) -> Collected
+pub fn collect(arena: &mut [u32], roots: &[u32], list: &mut [u32]) -> Result<u32, Refusal>
     ensures { Collect arena.old roots.now list.old result arena.new list.new }
 {
-    let e = refusal(arena, roots, list.len());
-    if e.number == 2 {
-        return Collected::Unsound;
-    }
-    if e.number == 8 {
-        return Collected::BadRoot;
-    }
-    if e.number == 9 {
-        return Collected::ShortList;
-    }
+    let taken = refusal(arena, roots, list.len())?;
     let mut marks = [0u32; 4097];
-    Collected::Live(collect_sound(arena, roots, list, &mut marks, e.taken))
+    Ok(collect_sound(arena, roots, list, &mut marks, taken))
 }

@@ -1,75 +1,29 @@
-// The fields of a block, on its own words: "the references come first, then n - r plain words".
-//
-// A field's number counts from 0 among the references, or among the plain words.
-ghost use Rattle.std.specs.Prelude.{◌≡◌, [], ◌∷◌, ◌+◌, ◌-◌, ◌<◌, ltb, length};
-ghost use Rattle.model.specs.Word.{put};
-ghost use Rattle.model.specs.View.{n_in, r_in, reference_in, plain_in, plain_words_in};
-ghost use Rattle.drawing.specs.Fields.{Fitting, PlainOf, field_read};
+// Reading and writing a field of a block, be it a reference or a plain word.
+ghost use Rattle.drawing.specs.Fields.{ReadField, WriteField};
 
-use model::Read;
-use words::fields::{header_n, header_r, shape};
-use words::slices::wide;
+use crate::block::Field;
+use crate::look::judged;
+use model::{Handle, Refusal};
 
-pub fn has_reference(block: &[u32], f: u32) -> bool
-    requires { Fitting block.now }
-    ensures { result ≡ ltb f (r_in block.now) }
+pub fn read(arena: &[u32], h: Handle, field: Field) -> Result<u32, Refusal>
+    ensures { ReadField arena.now h.0 field result arena.now }
 {
-    let s = shape(block);
-    f < s.r
+    let mut row = [0u32; 8192];
+    let block = judged(arena, &mut row)?.block(h)?;
+    Ok(block.words[block.place(field)?])
 }
 
-pub fn has_plain(block: &[u32], f: u32) -> bool
-    requires { Fitting block.now }
-    ensures { result ≡ ltb f (n_in block.now - r_in block.now) }
+// Whether the block has such a field is asked before whether it may be v: "the lowest number that applies".
+pub fn write(arena: &mut [u32], h: Handle, field: Field, v: u32) -> Result<(), Refusal>
+    ensures { WriteField arena.old h.0 field v result arena.new }
 {
-    let s = shape(block);
-    f < s.n - s.r
-}
-
-// Where a plain word stands in its block: behind the header and the references.
-pub fn plain_at(block: &[u32], f: u32) -> u32
-    requires { PlainOf block.now f }
-    ensures { result ≡ 1 + r_in block.now + f }
-{
-    1 + header_r(block[0]) + f
-}
-
-pub fn reference(block: &[u32], f: u32) -> Read
-    requires { Fitting block.now }
-    ensures { result ≡ field_read (ltb f (r_in block.now)) (reference_in block.now f) }
-{
-    if has_reference(block, f) {
-        Read::Value(block[1 + wide(f)])
-    } else {
-        Read::NoField
+    let mut row = [0u32; 8192];
+    let judged = judged(arena, &mut row)?;
+    let block = judged.block(h)?;
+    let at = block.at.0 + block.place(field)?;
+    if !judged.may_hold(field, v) {
+        return Err(Refusal::BadReference);
     }
-}
-
-pub fn plain(block: &[u32], f: u32) -> Read
-    requires { Fitting block.now }
-    ensures { result ≡ field_read (ltb f (n_in block.now - r_in block.now)) (plain_in block.now f) }
-{
-    if has_plain(block, f) {
-        Read::Value(block[wide(plain_at(block, f))])
-    } else {
-        Read::NoField
-    }
-}
-
-// All plain words, as a part of the block.
-pub fn plain_part(block: &[u32]) -> &[u32]
-    requires { Fitting block.now }
-    ensures { result.now ≡ plain_words_in block.now }
-{
-    let header = block[0];
-    let from = 1 + wide(header_r(header));
-    let end = 1 + wide(header_n(header));
-    &block[from..end]
-}
-
-pub fn put_word(block: &mut [u32], o: u32, v: u32)
-    requires { o < length block.old }
-    ensures { block.new ≡ put block.old o (v ∷ []) }
-{
-    block[wide(o)] = v;
+    arena[at] = v;
+    Ok(())
 }

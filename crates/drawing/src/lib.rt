@@ -6,19 +6,19 @@
 // outcomes that meet a promise are equal (proofs/Unique). From make on every call keeps the arena sound (proofs/Runs).
 //
 // The calls stand in make, allocate, ask, reference, plain and collect; place is for the C face. What they share stands in look
-// (handles of a judged arena), fields (a block's own words), put (one word changed) and rooms; no other crate
+// (a judged arena), block (a taken block of it), fields (one of those read or written) and rooms; no other crate
 // can call it.
 
 #![tactic(auto)]
 
 pub mod allocate;
 pub mod ask;
+mod block;
 pub mod collect;
 mod fields;
 mod look;
 pub mod make;
 pub mod place;
 pub mod plain;
-mod put;
 pub mod reference;
 mod rooms;

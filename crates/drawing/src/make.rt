@@ -1,24 +1,18 @@
 // Making an arena.
 ghost use Rattle.model.specs.Calls.{Make};
 
-use model::Made;
+use model::Refusal;
 use words::fields::arena_head;
-use words::slices::{clear, wide};
 
 // Fills the slice with 0 but for word 0, which names the segments.
-pub fn make(arena: &mut [u32], segments: u32) -> Made
+#[tactic(auto, unfolding(model::specs::Calls::make_refusal))]
+pub fn make(arena: &mut [u32], segments: u32) -> Result<(), Refusal>
     ensures { Make arena.old segments result arena.new }
 {
-    if segments == 0 {
-        return Made::BadSize;
+    if !(1..=64).contains(&segments) || arena.len() != 11 + 4164 * segments as usize {
+        return Err(Refusal::BadSize);
     }
-    if 64 < segments {
-        return Made::BadSize;
-    }
-    if arena.len() != 11 + 4164 * wide(segments) {
-        return Made::BadSize;
-    }
-    clear(arena);
+    arena.fill(0);
     arena[0] = arena_head(segments);
-    Made::Fresh
+    Ok(())
 }

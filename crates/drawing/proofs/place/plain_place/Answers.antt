@@ -1,41 +1,16 @@
 -- `drawing::place::plain_place` gives the place of a block's plain words. Assumes nothing.
-use mathlib.Core.Path.{refl}
-use Rattle.taken.proofs.RowLaws.{zero_row}
-use Rattle.drawing.proofs.LookLaws.{not_sound, is_ruled, not_taken, is_there}
-use Rattle.drawing.proofs.Refusals.{block_unsound, block_untaken}
-use Rattle.drawing.proofs.PlaceLaws.{no_place, placed}
+use Rattle.std.proofs.Common.{◌≡◌, true, rules}
+use Rattle.model.specs.Standing.{is_taken}
+use Rattle.model.specs.Sound.{sound}
+use Rattle.drawing.specs.Look.{BlockOf}
+use Rattle.drawing.proofs.FieldLaws.{placed}
 use Rattle.drawing.proofs.place.plain_place.Goals as goal
-
-pub judge-requires : goal.judge-requires
-judge-requires c = zero_row
-
-pub returns-then-not-judge : goal.returns-then-not-judge
-returns-then-not-judge c =
-    let a = c.args in
-    no_place a.arena.now a.h.0 2 (block_unsound a.arena.now a.h.0 0 (not_sound c.judge.ensures c.if-not-judge.true-raw)) refl
-
-pub is_block_taken-requires : goal.is_block_taken-requires
-is_block_taken-requires c = is_ruled c.judge.ensures c.if-not-judge.false-raw
-
-pub returns-then-not-is_block_taken : goal.returns-then-not-is_block_taken
-returns-then-not-is_block_taken c =
-    let a = c.args in
-    let ruled = is_ruled c.judge.ensures c.if-not-judge.false-raw in
-    no_place a.arena.now a.h.0 5
-    (block_untaken a.arena.now a.h.0 0 ruled.is_sound (not_taken c.is_block_taken.ensures c.if-not-is_block_taken.true-raw)) refl
-
-pub block-requires : goal.block-requires
-block-requires c = is_there c.is_block_taken.ensures c.if-not-is_block_taken.false-raw
-
-pub offset_of-from-requires : goal.offset_of-from-requires
-offset_of-from-requires c = is_there c.is_block_taken.ensures c.if-not-is_block_taken.false-raw
-
-pub overflow_sub-result : goal.overflow_sub-result
-overflow_sub-result c =
-    rw c.shape-s.ensures c.block.ensures.fitting.within
 
 pub returns : goal.returns
 returns c =
-    let a = c.args in
-    let there = is_there c.is_block_taken.ensures c.if-not-is_block_taken.false-raw in
-    placed a.arena.now a.h.0 _ _ _ _ there c.block.ensures c.shape-s.ensures c.offset_of-from.ensures c.wide.ensures
+    let ws = c.args.arena.now in
+    let h = c.args.h.0 in
+    let s : sound ws ≡ true = search rules in
+    let t : is_taken ws h ≡ true = search rules in
+    let own : BlockOf ws h c.in_ok-block.block.words.now c.in_ok-block.block.at.0 = search rules in
+    placed ws h s t _ _ _ own c.shape-n.ensures

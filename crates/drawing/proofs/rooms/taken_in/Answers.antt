@@ -1,37 +1,26 @@
--- `drawing::rooms::taken_in` counts the taken blocks of a segment. The loop's invariant: the ones of the first j words are counted.
--- Assumes nothing.
-use Prim.Native.Nat.{ℕ, ◌+◌, ◌*◌}
-use native.Mathlib.Omega.{arith}
-use mathlib.Core.Path.{◌≡◌, ap, ap₂, sym, ◌∙◌}
-use borrow.Author.Rules.{rules}
+-- `drawing::rooms::taken_in` counts the taken blocks of a segment: the ones of its words are their bits, and fewer than a word can
+-- count. Assumes nothing.
+use Rattle.std.proofs.Common.{rules, arith, ◌≡◌, ◌+◌, ◌-◌, ◌*◌, ◌^◌, ◌<◌, slice_range, sum_by, ◌∙◌}
 use Rattle.model.specs.Below.{count_below}
-use Rattle.model.specs.Word.{word, bit}
+use Rattle.model.specs.Word.{bit}
 use Rattle.laws.proofs.Below.{count_below_le}
-use Rattle.drawing.proofs.RoomLaws.{segment_bit, count_more}
+use Rattle.drawing.proofs.RoomLaws.{segment_bit, count_words}
 use Rattle.drawing.proofs.rooms.taken_in.Goals as goal
+use Rattle.drawing.proofs.rooms.taken_in.Goals.{Start}
 
-pub loop-j-init : goal.loop-j-init
-unfolding count_below
-loop-j-init c = search rules
+all_ones : (c : Start) → sum_by (λ w. count_below 32 (bit w)) (slice_range c.args.row.now (1 + 64 * c.args.segment) (1 + 64 * c.args.segment + 64))
+    ≡ count_below 2048 (segment_bit c.args.row.now c.args.segment)
+all_ones c =
+    let cut : 1 + 64 * c.args.segment + 64 - (1 + 64 * c.args.segment) ≡ 64 = omega arith in
+    rw cut (count_words c.args.row.now c.args.segment 64 (omega arith))
 
-pub overflow_add-count : goal.overflow_add-count
-overflow_add-count c =
-    let row = c.args.row.now in
-    let s = c.args.segment in
-    let at = 1 + 64 * c.wide.result + c.loop-j.j in
-    let j = c.loop-j.j in
-    omega (arith, c.ones-count.ensures, count_below_le 32 (bit (word row at)), count_below_le (32 * j) (segment_bit row s))
-
-pub loop-j-preserved : goal.loop-j-preserved
-loop-j-preserved c =
-    let row = c.args.row.now in
-    let s = c.args.segment in
-    let j = c.loop-j.j in
-    let here = ap (λ (t : ℕ). count_below 32 (bit (word row (1 + 64 * t + j)))) c.wide.ensures in
-    (search rules, search rules, ap₂ ◌+◌ c.loop-j.invariant.2 (c.ones-count.ensures ∙ here) ∙ sym (count_more row s j))
+pub sum-requires-clause-fits : goal.sum-requires-clause-fits
+sum-requires-clause-fits c =
+    let few : sum_by (λ w. count_below 32 (bit w)) (slice_range c.args.row.now (1 + 64 * c.args.segment) (1 + 64 * c.args.segment + 64)) < 2 ^ 32 =
+    omega (arith, all_ones (goal.at.sum-requires-clause-fits c).Start, count_below_le 2048 (segment_bit c.args.row.now c.args.segment)) in
+    search rules
 
 pub returns : goal.returns
 returns c =
-    let a = c.args in
-    let end : 32 * c.loop-j.j ≡ 2048 = omega arith in
-    c.loop-j.invariant.2 ∙ ap (λ (x : ℕ). count_below x (segment_bit a.row.now a.segment)) end
+    let e : c.sum.result ≡ sum_by (λ w. count_below 32 (bit w)) (slice_range c.args.row.now (1 + 64 * c.args.segment) (1 + 64 * c.args.segment + 64)) = search rules in
+    e ∙ all_ones (goal.at.returns c).Start
