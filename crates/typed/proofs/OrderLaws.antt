@@ -1,34 +1,24 @@
--- Orders: the answer to an order is that to a line with its meaning, and the list has room for the handles that an answer counts.
+-- The list has room for the handles that an answer counts.
 -- Assumes nothing.
 use Prim.Native.Nat.{ℕ, ◌≤◌}
-use mathlib.Core.Path.{◌≡◌, ◌∙◌, sym, ap, subst}
+use Rattle.std.specs.Prelude.{Ok, Err}
+use mathlib.Core.Path.{◌≡◌, ◌∙◌, sym, ap}
 use mathlib.Core.List.{List}
 use native.Mathlib.Omega.{arith}
 use lib.ListN.{length, get_or}
-use Rattle.lines.specs.Line.{Meaning, allocates, links, collects, bad, order_meaning}
-use Rattle.lines.specs.declared.Order.{Order}
+use Rattle.lines.specs.Line.{Meaning, allocates, links, collects, bad}
 use Rattle.model.specs.Calls.{Collect, collect_refusal}
-use Rattle.model.specs.Numbers.{Paper}
-use Rattle.model.specs.declared.Collected.{Collected}
-use Rattle.model.specs.declared.Collected.TheVariants as collected
+use Rattle.model.specs.Numbers.{Paper, Collected}
 use Rattle.typed.specs.Orders.{Obeyed, live_count, listed_count}
 use Rattle.typed.specs.declared.Answer.{Answer}
 
--- what an order is answered, the line is answered that means it
-pub obeyed : (o o' : Order) (row : List ℕ) (m : Meaning) (ws list : List ℕ) (x : Answer) (ws' list' : List ℕ) →
-    order_meaning o row ≡ m → o ≡ o' → Obeyed (order_meaning o' row) ws list x ws' list' → Obeyed m ws list x ws' list'
-obeyed o o' row m ws list x ws' list' means e y =
-    subst (λ (k : Meaning). Obeyed k ws list x ws' list') (sym (ap (λ (p : Order). order_meaning p row) e) ∙ means) y
-
 pub live_within : (ws roots list : List ℕ) (a : Collected) (ws' list' : List ℕ) → Collect ws roots list a ws' list' → live_count a ≤ length list'
-live_within ws roots list (collected.Live c) ws' list' x =
+live_within ws roots list (Ok c) ws' list' x =
     let none : collect_refusal ws roots list ≡ 0 = sym (ap (λ (p : Paper). p.number) x.answered) in
     let same : c ≡ x.live_count = ap (λ (p : Paper). get_or p.values 0 0) x.answered ∙ rw none in
     let g = x.collected_so none in
     omega (arith, g.within, g.same_length, same)
-live_within ws roots list collected.Unsound ws' list' x = omega arith
-live_within ws roots list collected.BadRoot ws' list' x = omega arith
-live_within ws roots list collected.ShortList ws' list' x = omega arith
+live_within ws roots list (Err e) ws' list' x = omega arith
 
 pub listed_within : (m : Meaning) (ws list : List ℕ) (x : Answer) (ws' list' : List ℕ) → Obeyed m ws list x ws' list' → listed_count x ≤ length list'
 listed_within (allocates n r tag) ws list x ws' list' y = omega (arith, ap listed_count y.1)
