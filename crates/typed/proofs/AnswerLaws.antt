@@ -29,7 +29,7 @@ not_more v k small fewest over =
     let q : 10 ^ 10 ≤ 10 ^ (k - 1) = pow-le-pow_right pos past in
     omega arith
 
-pub ten : (v k : ℕ) → v < 4294967296 → IsDigitCount 10 1 v k → k ≤ 10
+ten : (v k : ℕ) → v < 4294967296 → IsDigitCount 10 1 v k → k ≤ 10
 ten v k small fewest = le_of_suc-le-suc (lt_of_not-le (not_more v k small fewest))
 
 -- a number before which every test fails, and at which it passes, is the first
@@ -55,7 +55,7 @@ fewest_places v k small fewest =
     omega arith in
     first_at 1 9 (λ j. ltb v (10 ^ j)) k fewest.0 (ten v k small fewest) (λ j l h. le-ltb _ _ (powers j l h)) (λ h. lt-ltb _ _ fewest.1)
 
-pub decimal_is : (v k : ℕ) → v < 4294967296 → IsDigitCount 10 1 v k → last_digits 10 k v ≡ decimal v
+decimal_is : (v k : ℕ) → v < 4294967296 → IsDigitCount 10 1 v k → last_digits 10 k v ≡ decimal v
 unfolding decimal
 decimal_is v k small fewest = ap (λ (j : ℕ). last_digits 10 j v) (fewest_places v k small fewest)
 
@@ -104,17 +104,13 @@ printed_is v small =
 
 -- ---- handles, each after a space
 
-pub spelled_none : spelled [] ≡ []
-unfolding spelled
-spelled_none = refl
-
-pub spelled_append : (hs gs : List ℕ) → spelled (hs ++ gs) ≡ spelled hs ++ spelled gs
+spelled_append : (hs gs : List ℕ) → spelled (hs ++ gs) ≡ spelled hs ++ spelled gs
 unfolding spelled
 spelled_append [] gs = refl
 spelled_append (h ∷ hs) gs =
     ap (λ (r : List ℕ). (32 ∷ decimal h) ++ r) (spelled_append hs gs) ∙ sym (append_assoc (32 ∷ decimal h) (spelled hs) (spelled gs))
 
-pub spelled_one : (h : ℕ) → spelled (h ∷ []) ≡ 32 ∷ decimal h
+spelled_one : (h : ℕ) → spelled (h ∷ []) ≡ 32 ∷ decimal h
 unfolding spelled
 spelled_one h = append-nil (32 ∷ decimal h)
 
