@@ -1,4 +1,4 @@
-// The hand program: an arena of two segments, a work list, and what a person types (crate typed).
+// The hand program again, on bad lines of every sort: a crate has one input and one output that it is held to (crate store has document 01's run).
 #![tactic(auto)]
 
 fn main(rt: HostRuntime) {

@@ -1,6 +1,4 @@
 pub mod Examples
-pub mod FieldLaws
-pub mod MeaningLaws
 pub mod NumberLaws
+pub mod OrderLaws
 pub mod Outcomes
-pub mod RowLaws

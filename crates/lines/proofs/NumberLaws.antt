@@ -1,122 +1,131 @@
--- A number in front of a text. Where a space or nothing is behind its digits it is the text's first number, and where another byte is
--- behind them the text is not good.
+-- The value of digits, what is a number, and the numbers of fields.
 -- Assumes nothing.
-use Prim.Native.Nat.{ℕ, ◌+◌, ◌-◌, ◌≤◌, ◌<◌, min}
-use mathlib.Core.Path.{◌≡◌, refl, sym, ap, subst, ◌∙◌}
-use mathlib.Core.Bool.{Bool, true, false, ◌&&◌}
-use mathlib.Core.List.{List, [], ◌∷◌, ◌++◌, map, append-nil}
+use Prim.Native.Nat.{ℕ, zero, suc, ◌+◌, ◌-◌, ◌*◌, ◌≤◌, ◌<◌}
+use mathlib.Core.Path.{◌≡◌, refl, sym, ap, ◌∙◌}
+use mathlib.Core.Bool.{true, false, not, ◌&&◌}
+use mathlib.Core.List.{List, [], ◌∷◌, ◌++◌}
 use native.Mathlib.Omega.{arith}
-use native.Mathlib.Nat.{add-zero}
 use native.Mathlib.Numerals.{add-one}
-use lib.ListN.{length, get_or, take, drop, length-drop, take-append-drop}
-use lib.Seq.{take_all, drop-cons, get_or-drop, length-take-le}
-use lib.Dec.{eqb}
-use borrow.Author.Tests.{ne_eqb, le-leb, lt-leb}
-use Rattle.lines.specs.Line.{space, is_digit, fields, value, all_digits, is_number, all_numbers}
-use Rattle.lines.specs.Reading.{good, numbers, Digits, Found}
-use Rattle.lines.proofs.FieldLaws.{and_left, and_false, digits_append, fields_digits, prefix_first, first, others, fields_space, fields_byte}
+use lib.ListN.{length, get_or, take, drop, take-append-drop}
+use lib.Seq.{take-suc}
+use lib.Dec.{eqb, leb}
+use Rattle.std.specs.Prelude.{Option, Some, None, Result, Ok, Err, OnOk, OnErr}
+use Rattle.std.specs.Result.{result_ok, OkIff}
+use Rattle.std.specs.List.{slice_split, onto_first}
+use Rattle.std.proofs.lemmas.Bool.{and_parts, and_from, and_left, ne_eqb, le-leb, leb-true, false≢true, false_from_ne_true}
+use Rattle.lines.specs.Line.{is_digit, joined, fields, value_after, value, all_digits, is_number, all_numbers}
 
--- ---- a number in front of a text
+-- ---- values
 
--- a field with a byte in it that is no digit is no number
-not_a_number : (ds f : List ℕ) (b : ℕ) → is_digit b ≡ false → is_number (ds ++ (b ∷ f)) ≡ false
-unfolding is_number all_digits
-not_a_number ds f b e = simp (digits_append, e, and_false)
+value_append : (v : ℕ) (ds es : List ℕ) → value_after v (ds ++ es) ≡ value_after (value_after v ds) es
+unfolding value_after
+value_append v [] es = refl
+value_append v (d ∷ ds) es = value_append (10 * v + (d - 48)) ds es
 
--- what is behind digits ends them: there is no byte, or one that is no digit
-abbrev pub Ends : List ℕ → Type 0
-Ends rest = 0 < length rest → is_digit (get_or rest 0 0) ≡ false
+-- a digit more
+pub value_more : (ds : List ℕ) (at : ℕ) → at < length ds → value (take (at + 1) ds) ≡ 10 * value (take at ds) + (get_or ds at 0 - 48)
+unfolding value_after
+value_more ds at h = rw (add-one, take-suc ds at 0) (value_append 0 (take at ds) (get_or ds at 0 ∷ []))
 
-module _ (ds : List ℕ) (all : all_digits ds ≡ true) where
-  -- the first field where nothing, a space or another byte is behind the digits
-  at_end : fields (ds ++ []) ≡ ds ∷ []
-  unfolding fields
-  at_end = rw (fields_digits ds [] all, prefix_first, append-nil)
+-- digits behind others never make the value less
+value_grows : (v : ℕ) (ds : List ℕ) → v ≤ value_after v ds
+unfolding value_after
+value_grows v [] = omega arith
+value_grows v (d ∷ ds) = omega (arith, value_grows (10 * v + (d - 48)) ds)
 
-  at_space : (b : ℕ) (t : List ℕ) → eqb b space ≡ true → fields (ds ++ (b ∷ t)) ≡ ds ∷ fields t
-  at_space b t e = rw (fields_digits ds (b ∷ t) all, fields_space b t e, prefix_first, append-nil)
+value_within : (ds : List ℕ) (at : ℕ) → value (take at ds) ≤ value ds
+value_within ds at =
+    let whole : value (take at ds ++ drop at ds) ≡ value ds = ap value (take-append-drop at ds) in
+    omega (arith, value_append 0 (take at ds) (drop at ds), value_grows (value (take at ds)) (drop at ds))
 
-  at_byte : (b : ℕ) (t : List ℕ) → eqb b space ≡ false → fields (ds ++ (b ∷ t)) ≡ (ds ++ (b ∷ first (fields t))) ∷ others (fields t)
-  at_byte b t e = rw (fields_digits ds (b ∷ t) all, fields_byte b t e, prefix_first)
+-- ---- digits
 
-  -- all fields are numbers if the digits are one and what is behind them is good
-  good_by : (b : ℕ) (t : List ℕ) → is_digit b ≡ false → (s : Bool) → eqb b space ≡ s
-      → all_numbers (fields (ds ++ (b ∷ t))) ≡ (is_number ds && good (b ∷ t))
-  unfolding all_numbers
-  good_by b t e true s = rw (at_space b t s, s)
-  good_by b t e false s = rw (at_byte b t s, s, not_a_number ds (first (fields t)) b e, and_false)
+digits_snoc : (ds : List ℕ) (b : ℕ) → all_digits ds ≡ true → is_digit b ≡ true → all_digits (ds ++ (b ∷ [])) ≡ true
+unfolding all_digits
+digits_snoc [] b all d = and_from (is_digit b) true d refl
+digits_snoc (c ∷ ds) b all d =
+    let parts = and_parts (is_digit c) (all_digits ds) all in
+    and_from (is_digit c) (all_digits (ds ++ (b ∷ []))) parts.0 (digits_snoc ds b parts.1 d)
 
-  good_front : (rest : List ℕ) → Ends rest → all_numbers (fields (ds ++ rest)) ≡ (is_number ds && good rest)
-  unfolding all_numbers
-  good_front [] ends = rw at_end
-  good_front (b ∷ t) ends = good_by b t (ends (omega arith)) (eqb b space) refl
+pub digits_more : (ds : List ℕ) (at : ℕ) → at < length ds → all_digits (take at ds) ≡ true → is_digit (get_or ds at 0) ≡ true → all_digits (take (at + 1) ds) ≡ true
+digits_more ds at h all d = rw (add-one, take-suc ds at 0) (digits_snoc (take at ds) (get_or ds at 0) all d)
 
-  -- and their values are that of the digits and those of what is behind them
-  numbers_front : (rest : List ℕ) → good rest ≡ true → map value (fields (ds ++ rest)) ≡ value ds ∷ numbers rest
-  numbers_front [] g = rw at_end
-  numbers_front (b ∷ t) g = rw (at_space b t (and_left _ _ g))
+digit_at : (ds : List ℕ) (at : ℕ) → all_digits ds ≡ true → at < length ds → is_digit (get_or ds at 0) ≡ true
+unfolding all_digits
+digit_at [] at all h = absurd (omega arith)
+digit_at (b ∷ ds) zero all h = (and_parts (is_digit b) (all_digits ds) all).0
+digit_at (b ∷ ds) (suc at) all h = digit_at ds at (and_parts (is_digit b) (all_digits ds) all).1 (omega arith)
 
--- ---- one number, behind a space
+-- ---- one number
 
-ends_drop : (r : List ℕ) (n : ℕ) → Digits r n → Ends (drop n r)
-ends_drop r n d h = rw (get_or-drop, add-zero) (d.no_more (omega (arith, length-drop n r)))
+pub no_bytes : (f : List ℕ) → length f ≡ 0 → is_number f ≡ true → ⊥
+unfolding is_number
+no_bytes [] e n = false≢true n
+no_bytes (b ∷ f) e n = omega arith
 
--- a text that begins with a space is good if the digits behind it are a number and what follows them is good
-good_space : (r : List ℕ) (n : ℕ) → Digits r n → good (space ∷ r) ≡ (is_number (take n r) && good (drop n r))
-good_space r n d =
-    ap (λ (t : List ℕ). all_numbers (fields t)) (sym (take-append-drop n r)) ∙ good_front (take n r) d.digits (drop n r) (ends_drop r n d)
+pub no_digit : (f : List ℕ) (at : ℕ) → at < length f → (is_digit (get_or f at 0) ≡ true → ⊥) → is_number f ≡ true → ⊥
+unfolding is_number
+no_digit f at h d n = d (digit_at f at (and_parts _ _ (and_parts (not (eqb (length f) 0)) (all_digits f && leb (value f) 4294967295) n).1).0 h)
 
-numbers_space : (r : List ℕ) (n : ℕ) → Digits r n → good (drop n r) ≡ true → numbers (space ∷ r) ≡ value (take n r) ∷ numbers (drop n r)
-numbers_space r n d g =
-    ap (λ (t : List ℕ). map value (fields t)) (sym (take-append-drop n r)) ∙ numbers_front (take n r) d.digits (drop n r) g
+pub too_large : (f : List ℕ) (at : ℕ) → (value (take at f) < 4294967296 → ⊥) → is_number f ≡ true → ⊥
+unfolding is_number
+too_large f at h n =
+    let small : value f ≤ 4294967295 =
+    leb-true _ _ (and_parts (all_digits f) _ (and_parts (not (eqb (length f) 0)) (all_digits f && leb (value f) 4294967295) n).1).1 in
+    h (omega (arith, value_within f at))
 
--- no digits, or digits of a large value, are no number; others are one
-module _ (r : List ℕ) (n : ℕ) (d : Digits r n) where
-  none_is_bad : n ≡ 0 → good (space ∷ r) ≡ false
-  unfolding is_number
-  none_is_bad e = good_space r n d ∙ rw e
+pub one_number : (f : List ℕ) → 0 < length f → all_digits f ≡ true → value f < 4294967296 → is_number f ≡ true
+unfolding is_number
+one_number f some all small = rw (ne_eqb (length f) 0 (λ e. omega arith), all) (le-leb _ _ (omega arith))
 
-  large_is_bad : 4294967295 < value (take n r) → good (space ∷ r) ≡ false
-  unfolding is_number
-  large_is_bad h = good_space r n d ∙ simp (lt-leb _ _ h, and_false)
+-- ---- the numbers of fields
 
-  is_one : 0 < n → value (take n r) ≤ 4294967295 → is_number (take n r) ≡ true
-  unfolding is_number
-  is_one some h = rw (length-take-le n r d.within, ne_eqb n 0 (λ e. omega arith), d.digits) (le-leb _ _ h)
+-- one more
+pub numbers_more : (fs : List (List ℕ)) (f : List ℕ) → all_numbers fs ≡ true → is_number f ≡ true → all_numbers (fs ++ (f ∷ [])) ≡ true
+unfolding all_numbers
+numbers_more [] f all n = and_from (is_number f) true n refl
+numbers_more (g ∷ fs) f all n =
+    let parts = and_parts (is_number g) (all_numbers fs) all in
+    and_from (is_number g) (all_numbers (fs ++ (f ∷ []))) parts.0 (numbers_more fs f parts.1 n)
 
-  found : (v : ℕ) → 0 < n → v ≡ value (take n r) → v ≤ 4294967295 → Found (space ∷ r) v (n + 1)
-  found v some e h =
-      let same : good (space ∷ r) ≡ good (drop n r) = good_space r n d ∙ rw (is_one some (omega arith)) in
-      record {
-        forward = omega arith;
-        within = omega (arith, d.within);
-        same = rw add-one same;
-        first = λ g. rw (add-one, e) (numbers_space r n d (sym same ∙ g));
-      }
+-- one that is none
+number_at : (fs : List (List ℕ)) (at : ℕ) (d : List ℕ) → all_numbers fs ≡ true → at < length fs → is_number (get_or fs at d) ≡ true
+unfolding all_numbers
+number_at [] at d all h = absurd (omega arith)
+number_at (f ∷ fs) zero d all h = (and_parts (is_number f) (all_numbers fs) all).0
+number_at (f ∷ fs) (suc at) d all h = number_at fs at d (and_parts (is_number f) (all_numbers fs) all).1 (omega arith)
 
--- ---- the same of a text whose first byte is a space, and of what is behind that byte as code cuts it out
+pub no_number : (fs : List (List ℕ)) (at : ℕ) (f : List ℕ) → (at < length fs) × (f ≡ get_or fs at f) → (is_number f ≡ true → ⊥)
+    → (all_numbers fs && leb (length fs) 16) ≡ false
+no_number fs at f h none =
+    and_left (all_numbers fs) _ (false_from_ne_true _ (λ all. none (rw h.1 (number_at fs at f all h.0))))
 
--- what is cut out from a place to the end
-pub cut_off : (at : ℕ) (text : List ℕ) → take (length text - at) (drop at text) ≡ drop at text
-cut_off at text = take_all (length text - at) (drop at text) (omega (arith, length-drop at text))
+-- what `split` gives
+onto : (b : ℕ) (fs : List (List ℕ)) → onto_first b fs ≡ joined b fs
+onto b [] = refl
+onto b (f ∷ fs) = refl
 
-pub other_is_bad : (text : List ℕ) → 0 < length text → (get_or text 0 0 ≡ space → ⊥) → good text ≡ false
-other_is_bad [] some h = absurd (omega arith)
-other_is_bad (b ∷ text) some h = rw (ne_eqb b 32 h)
+pub fields_are : (text : List ℕ) → slice_split (λ b. eqb b 32) text ≡ fields text
+unfolding fields
+fields_are [] = refl
+fields_are (b ∷ text) = rw (fields_are text, onto b (fields text)) refl
 
-module _ (text : List ℕ) (some : 0 < length text) (sp : get_or text 0 0 ≡ space) (n : ℕ) (d : Digits (take (length text - 1) (drop 1 text)) n) where
-  abbrev rest : List ℕ
-  rest = take (length text - 1) (drop 1 text)
+-- ---- what a clause says of a result that `ok` made an option
 
-  whole : space ∷ rest ≡ text
-  whole = rw (cut_off 1 text, ← sp) (sym (drop-cons text 0 0 some))
+pub at_some : {A E P : Type 0} (r : Result A E) (o : Option A) (x : A) → o ≡ result_ok r → o ≡ Some x → OnOk r P → P
+at_some (Ok y) o x e s p = p
+at_some (Err y) o x e s p = cc
 
-  pub none_behind : n ≡ 0 → good text ≡ false
-  none_behind e = ap good (sym whole) ∙ none_is_bad rest n d e
+pub at_none : {A E P : Type 0} (r : Result A E) (o : Option A) → o ≡ result_ok r → o ≡ None → OnErr r P → P
+at_none (Ok y) o e s p = cc
+at_none (Err y) o e s p = p
 
-  module _ (v : ℕ) (capped : v ≡ min (value (take n rest)) 4294967296) where
-    pub large_behind : 4294967295 < v → good text ≡ false
-    large_behind h = ap good (sym whole) ∙ large_is_bad rest n d (omega arith)
+pub some_iff : {A E P : Type 0} (r : Result A E) (o : Option A) (v x : A) → OkIff r P v → o ≡ result_ok r → o ≡ Some x → P × (x ≡ v)
+some_iff (Ok y) o v x i e s =
+    let same : y ≡ x = cc in
+    (i.0, sym same ∙ i.1)
+some_iff (Err y) o v x i e s = cc
 
-    pub found_behind : (n ≡ 0 → ⊥) → v ≤ 4294967295 → Found text v (n + 1)
-    found_behind ne h = subst (λ (t : List ℕ). Found t v (n + 1)) whole (found rest n d v (omega arith) (omega arith) h)
+pub none_iff : {A E P : Type 0} (r : Result A E) (o : Option A) (v : A) → OkIff r P v → o ≡ result_ok r → o ≡ None → P → ⊥
+none_iff (Ok y) o v i e s = cc
+none_iff (Err y) o v i e s = i

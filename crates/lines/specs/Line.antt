@@ -1,6 +1,6 @@
 -- What a typed line means. "Lines of at most 80 bytes (newline apart), decimals (leading zeros allowed) parted by single spaces."
 -- Assumes nothing.
-use Rattle.std.specs.Prelude.{ℕ, ◌+◌, ◌-◌, ◌*◌, Bool, true, cond, not, ◌&&◌, List, [], ◌∷◌, map, length, get_or, take, eqb, leb}
+use Rattle.std.specs.Prelude.{ℕ, ◌+◌, ◌-◌, ◌*◌, Bool, true, cond, not, ◌&&◌, List, [], ◌∷◌, map, length, get_or, eqb, leb, Option, Some, None}
 use Rattle.lines.specs.declared.Order.{Order}
 use Rattle.lines.specs.declared.Order.TheVariants as order
 
@@ -68,16 +68,9 @@ meant (letter ∷ fs) = cond (eqb (length letter) 1 && all_numbers fs) (said (ge
 unfoldable pub meaning : List ℕ → Meaning
 meaning text = cond (leb (length text) 80) (meant (fields text)) bad
 
--- what an order says, with the row that holds the roots
-abbrev pub order_meaning : Order → List ℕ → Meaning
-order_meaning (order.Allocate n r tag) row = allocates n r tag
-order_meaning (order.Link h f v) row = links h f v
-order_meaning (order.Collect count) row = collects (take count row)
-order_meaning order.Bad row = bad
-
--- how many roots of the row it names
-abbrev pub roots_of : Order → ℕ
-roots_of (order.Allocate n r tag) = 0
-roots_of (order.Link h f v) = 0
-roots_of (order.Collect count) = count
-roots_of order.Bad = 0
+-- what an order says, where there is one
+abbrev pub order_meaning : Option Order → Meaning
+order_meaning (Some (order.Allocate n r tag)) = allocates n r tag
+order_meaning (Some (order.Link h f v)) = links h f v
+order_meaning (Some (order.Collect roots)) = collects roots.items
+order_meaning None = bad

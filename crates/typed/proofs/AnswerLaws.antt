@@ -1,4 +1,4 @@
--- Texts: bytes put behind others, a number in decimal, and handles each after a space.
+-- Texts: a number in decimal, and handles each after a space.
 -- Assumes nothing.
 use Prim.Native.Nat.{ℕ, zero, suc, ◌+◌, ◌-◌, ◌/◌, ◌%◌, ◌^◌, ◌≤◌, ◌<◌}
 use mathlib.Core.Path.{◌≡◌, refl, sym, ap, ◌∙◌}
@@ -9,31 +9,14 @@ use native.Mathlib.Nat.{le_refl, le_of_suc-le-suc, lt_of_not-le, eq-or-lt_of_le,
 use native.Mathlib.Numerals.{add-one, sub-one}
 use native.Mathlib.Omega.{arith}
 use lib.Dec.{ltb}
-use lib.ListN.{length, get_or, set, take, drop, take-append-drop, length-append}
-use lib.Seq.{paste, paste-suc, take-paste, take-length, take-suc, drop-drop}
-use borrow.Author.Tests.{lt-ltb, le-ltb, ne_eqb}
+use lib.ListN.{length, get_or, take, length-append}
+use lib.Seq.{take-suc}
+use borrow.Author.Tests.{lt-ltb, le-ltb}
 use Rattle.typed.specs.Digits.{hex_digit_ascii, last_digits, IsDigitCount}
 use Rattle.std.specs.Fmt.{decimal as text_of}
 use Rattle.std.proofs.lemmas.Fmt.{decimal_by_steps}
 use Rattle.model.specs.Below.{first_from}
-use Rattle.typed.specs.Answers.{places, decimal, spelled, newline, refused_word, numbered, said}
-
--- ---- bytes behind others
-
--- one byte more
-pub paste_more : (text : List ℕ) (n : ℕ) (bytes : List ℕ) (at : ℕ) → n + at < length text → at < length bytes
-    → set (paste text n bytes at) (n + at) (get_or bytes at 0) ≡ paste text n bytes (at + 1)
-paste_more text n bytes at hd hs = rw add-one (paste-suc text n bytes at 0 hd hs)
-
--- all of them
-pub put_all : (text : List ℕ) (n : ℕ) (bytes text' : List ℕ) (at : ℕ) → n + length bytes ≤ length text → at ≡ length bytes
-    → text' ≡ paste text n bytes at → take (n + at) text' ≡ take n text ++ bytes
-put_all text n bytes text' at room all e =
-    rw (e, all) (take-paste text n bytes (length bytes) (omega arith) (omega arith) ∙ ap (λ (r : List ℕ). take n text ++ r) (take-length bytes))
-
--- bytes behind bytes
-pub behind : {text text' : List ℕ} (before bytes more : List ℕ) → text' ≡ text ++ more → text ≡ before ++ bytes → text' ≡ before ++ (bytes ++ more)
-behind before bytes more e e₀ = e ∙ ap (λ (t : List ℕ). t ++ more) e₀ ∙ append_assoc before bytes more
+use Rattle.typed.specs.Answers.{places, decimal, spelled, newline, colon, refused_word, live_word, numbered, live_words}
 
 -- ---- a number in decimal
 
@@ -46,7 +29,7 @@ not_more v k small fewest over =
     let q : 10 ^ 10 ≤ 10 ^ (k - 1) = pow-le-pow_right pos past in
     omega arith
 
-pub ten : (v k : ℕ) → v < 4294967296 → IsDigitCount 10 1 v k → k ≤ 10
+ten : (v k : ℕ) → v < 4294967296 → IsDigitCount 10 1 v k → k ≤ 10
 ten v k small fewest = le_of_suc-le-suc (lt_of_not-le (not_more v k small fewest))
 
 -- a number before which every test fails, and at which it passes, is the first
@@ -72,7 +55,7 @@ fewest_places v k small fewest =
     omega arith in
     first_at 1 9 (λ j. ltb v (10 ^ j)) k fewest.0 (ten v k small fewest) (λ j l h. le-ltb _ _ (powers j l h)) (λ h. lt-ltb _ _ fewest.1)
 
-pub decimal_is : (v k : ℕ) → v < 4294967296 → IsDigitCount 10 1 v k → last_digits 10 k v ≡ decimal v
+decimal_is : (v k : ℕ) → v < 4294967296 → IsDigitCount 10 1 v k → last_digits 10 k v ≡ decimal v
 unfolding decimal
 decimal_is v k small fewest = ap (λ (j : ℕ). last_digits 10 j v) (fewest_places v k small fewest)
 
@@ -121,17 +104,13 @@ printed_is v small =
 
 -- ---- handles, each after a space
 
-pub spelled_none : spelled [] ≡ []
-unfolding spelled
-spelled_none = refl
-
-pub spelled_append : (hs gs : List ℕ) → spelled (hs ++ gs) ≡ spelled hs ++ spelled gs
+spelled_append : (hs gs : List ℕ) → spelled (hs ++ gs) ≡ spelled hs ++ spelled gs
 unfolding spelled
 spelled_append [] gs = refl
 spelled_append (h ∷ hs) gs =
     ap (λ (r : List ℕ). (32 ∷ decimal h) ++ r) (spelled_append hs gs) ∙ sym (append_assoc (32 ∷ decimal h) (spelled hs) (spelled gs))
 
-pub spelled_one : (h : ℕ) → spelled (h ∷ []) ≡ 32 ∷ decimal h
+spelled_one : (h : ℕ) → spelled (h ∷ []) ≡ 32 ∷ decimal h
 unfolding spelled
 spelled_one h = append-nil (32 ∷ decimal h)
 
@@ -142,19 +121,13 @@ spelled_more hs at l =
     ∙ spelled_append (take at hs) (get_or hs at 0 ∷ [])
     ∙ ap (λ (r : List ℕ). spelled (take at hs) ++ r) (spelled_one (get_or hs at 0))
 
--- a piece, and what is left behind it
-pub spelled_piece : (hs : List ℕ) (at end : ℕ) → at ≤ end
-    → spelled (drop at hs) ≡ spelled (take (end - at) (drop at hs)) ++ spelled (drop end hs)
-spelled_piece hs at end l =
-    let back : at + (end - at) ≡ end = omega arith in
-    ap spelled (sym (take-append-drop (end - at) (drop at hs)))
-    ∙ spelled_append (take (end - at) (drop at hs)) (drop (end - at) (drop at hs))
-    ∙ ap (λ (r : List ℕ). spelled (take (end - at) (drop at hs)) ++ spelled r) (drop-drop (end - at) at hs ∙ ap (λ (j : ℕ). drop j hs) back)
+-- ---- a word, a number and what ends it
 
--- ---- a grant and a refusal
+pub numbered_is : (word : List ℕ) (v : ℕ) (end : List ℕ) → v < 4294967296 → word ++ (text_of v ++ end) ≡ numbered word v end
+numbered_is word v end small = rw (printed_is v small)
 
-pub said_granted : (number : ℕ) (words : List ℕ) → number ≡ 0 → said number words ≡ words
-said_granted number words e = rw e
+pub refused_is : (v e : ℕ) → v ≡ e → v < 4294967296 → refused_word ++ (text_of v ++ newline) ≡ numbered refused_word e newline
+refused_is v e same small = numbered_is refused_word v newline small ∙ ap (λ (n : ℕ). numbered refused_word n newline) same
 
-pub said_refused : (number : ℕ) (words : List ℕ) (e : ℕ) → e ≡ number → (e ≡ 0 → ⊥) → said number words ≡ numbered refused_word e newline
-said_refused number words e same some = rw (← same, ne_eqb e 0 some)
+pub live_is : (c : ℕ) (list : List ℕ) → c < 4294967296 → live_word ++ (text_of c ++ (colon ++ (spelled (take c list) ++ newline))) ≡ live_words c list
+live_is c list small = rw (printed_is c small) (rw (append_assoc live_word (decimal c ++ colon), append_assoc (decimal c) colon))

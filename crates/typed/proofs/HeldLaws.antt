@@ -7,9 +7,11 @@ use native.Mathlib.Nat.{le_refl, lt_of_not-le}
 use native.Mathlib.Decide.{dec_le, ℕ_discrete}
 use native.Mathlib.Numerals.{add-one}
 use native.Mathlib.Omega.{arith}
-use lib.ListN.{length, get_or, set, take, length-append}
-use lib.Seq.{length-take-le, take_all, take_at, take-take, take-suc, take-suc-set, take-append-le}
+use lib.ListN.{length, get_or, take, length-append, length-take}
+use lib.Seq.{length-take-le, take_all, take_at, take-take, take-suc, take-append-le}
 use borrow.Author.Tests.{lt-leb}
+use Rattle.std.specs.Prelude.{Result, Ok, Err, IsOk, IsErr}
+use mathlib.Core.Bool.{false≢true}
 use Rattle.lines.specs.Line.{meaning}
 use Rattle.typed.specs.Held.{newline, joined, TookByte, Typed, nothing, byte, end, TypedHeld}
 use Rattle.typed.specs.Orders.{Answered}
@@ -17,18 +19,19 @@ use Rattle.typed.specs.Orders.{Answered}
 -- ---- a byte more
 
 -- there is no room for it
-pub held_full : (line : List ℕ) (held : ℕ) (b : ℕ) → held ≡ length line → take held line ≡ joined (length line) (take held line) b
-held_full line held b full = sym (take_at (take held line) (b ∷ []) (length line) (length-take-le held line (omega arith) ∙ full))
+pub held_full : (room : ℕ) (line : List ℕ) (b : ℕ) → length line ≡ room → line ≡ joined room line b
+held_full room line b full = sym (take_at line (b ∷ []) room full)
 
 -- there is
-pub held_more : (line : List ℕ) (held : ℕ) (b : ℕ) → held < length line → take (held + 1) (set line held b) ≡ joined (length line) (take held line) b
-held_more line held b room =
-    let long : length (take held line ++ (b ∷ [])) ≤ length line =
-    omega (arith, length-append (take held line) (b ∷ []), length-take-le held line (omega arith)) in
-    rw add-one (take-suc-set line held b room) ∙ sym (take_all (length line) (take held line ++ (b ∷ [])) long)
+pub held_more : (room : ℕ) (line : List ℕ) (b : ℕ) → length line < room → line ++ (b ∷ []) ≡ joined room line b
+held_more room line b few = sym (take_all room (line ++ (b ∷ [])) (omega (arith, length-append line (b ∷ []))))
+
+-- what is held is within the room
+pub joined_within : (room : ℕ) (line : List ℕ) (b : ℕ) → length (joined room line b) ≤ room
+joined_within room line b = omega (arith, length-take room (line ++ (b ∷ [])))
 
 -- to hold what is held and a byte is to hold the line and the byte
-pub joined_held : (room : ℕ) (line : List ℕ) (b : ℕ) → joined room (take room line) b ≡ joined room line b
+joined_held : (room : ℕ) (line : List ℕ) (b : ℕ) → joined room (take room line) b ≡ joined room line b
 joined_held room line b = go (dec_le (length line) room)
   where
     go : Dec (length line ≤ room) → joined room (take room line) b ≡ joined room line b
@@ -41,7 +44,7 @@ joined_held room line b = go (dec_le (length line) room)
 
 -- ---- with 81 bytes a line is too long, whatever follows
 
-pub meaning_held : (room : ℕ) (line : List ℕ) → 81 ≤ room → meaning (take room line) ≡ meaning line
+meaning_held : (room : ℕ) (line : List ℕ) → 81 ≤ room → meaning (take room line) ≡ meaning line
 unfolding meaning
 meaning_held room line h = go (dec_le (length line) room)
   where
@@ -57,7 +60,7 @@ meaning_held room line h = go (dec_le (length line) room)
 pub typed_none : (room : ℕ) (line ws list : List ℕ) → length line ≤ room → TypedHeld room line ws list [] line ws list
 typed_none room line ws list few = record { whole = line; typed = nothing; held = sym (take_all room line few) }
 
-pub typed_more : (room : ℕ) (line₀ ws₀ list₀ bytes line ws list : List ℕ) (b : ℕ) (line' ws' list' : List ℕ) → 81 ≤ room →
+typed_more : (room : ℕ) (line₀ ws₀ list₀ bytes line ws list : List ℕ) (b : ℕ) (line' ws' list' : List ℕ) → 81 ≤ room →
     TypedHeld room line₀ ws₀ list₀ bytes line ws list → TookByte room line ws list b line' ws' list' →
     TypedHeld room line₀ ws₀ list₀ (bytes ++ (b ∷ [])) line' ws' list'
 typed_more room line₀ ws₀ list₀ bytes line ws list b line' ws' list' h so took = go (ℕ_discrete b newline)
@@ -79,12 +82,14 @@ typed_more room line₀ ws₀ list₀ bytes line ws list b line' ws' list' h so 
           held = same.0 ∙ ap (λ (l : List ℕ). joined room l b) so.held ∙ joined_held room so.whole b;
         }
 
--- the same for the byte at a place of what was read, where so many bytes are then held
-pub typed_next : (room : ℕ) (line₀ ws₀ list₀ bytes : List ℕ) (at : ℕ) (line ws list full : List ℕ) (k n : ℕ) (ws' list' : List ℕ) → room ≡ 81 →
-    at < length bytes → k ≡ n → TypedHeld 81 line₀ ws₀ list₀ (take at bytes) line ws list →
-    TookByte room line ws list (get_or bytes at 0) (take k full) ws' list' → TypedHeld 81 line₀ ws₀ list₀ (take (at + 1) bytes) (take n full) ws' list'
-typed_next room line₀ ws₀ list₀ bytes at line ws list full k n ws' list' e l told so took =
-    let next : take at bytes ++ (get_or bytes at 0 ∷ []) ≡ take (at + 1) bytes = sym (ap (λ (j : ℕ). take j bytes) (add-one at) ∙ take-suc bytes at 0 l) in
-    rw (← next, ← told)
-    (typed_more 81 line₀ ws₀ list₀ (take at bytes) line ws list (get_or bytes at 0) (take k full) ws' list' (le_refl 81) so
-    (subst (λ (m : ℕ). TookByte m line ws list (get_or bytes at 0) (take k full) ws' list') e took))
+-- the same for the byte at a place of what was read
+pub typed_next : {line₀ ws₀ list₀ line ws list line' ws' list' : List ℕ} (bytes : List ℕ) (at : ℕ) → at < length bytes
+    → TypedHeld 81 line₀ ws₀ list₀ (take at bytes) line ws list → TookByte 81 line ws list (get_or bytes at 0) line' ws' list'
+    → TypedHeld 81 line₀ ws₀ list₀ (take (at + 1) bytes) line' ws' list'
+typed_next bytes at l so took =
+    rw (add-one, take-suc bytes at 0 l) (typed_more 81 _ _ _ (take at bytes) _ _ _ (get_or bytes at 0) _ _ _ (le_refl 81) so took)
+
+-- a result is no error and a value at once
+pub not_both : {A E : Type 0} (r : Result A E) → IsOk r → IsErr r → ⊥
+not_both (Ok x) ok err = false≢true err
+not_both (Err x) ok err = false≢true ok

@@ -1,4 +1,3 @@
 pub mod AnswerLaws
 pub mod Examples
 pub mod HeldLaws
-pub mod OrderLaws

@@ -5,10 +5,9 @@
 use Rattle.std.specs.Prelude.{ℕ, ◌^◌, cond, List, [], ◌∷◌, ◌++◌, get_or, take, eqb, ltb}
 use Rattle.typed.specs.Digits.{last_digits}
 use Rattle.model.specs.Below.{first_from}
-use Rattle.model.specs.Numbers.{granted, allocated_paper, written_paper, collected_paper}
-use Rattle.model.specs.declared.Allocated.{Allocated}
-use Rattle.model.specs.declared.Written.{Written}
-use Rattle.model.specs.declared.Collected.{Collected}
+use Rattle.model.specs.Numbers.{granted, Allocated, Written, Collected, allocated_paper, written_paper, collected_paper}
+use Rattle.typed.specs.declared.Answer.{Answer}
+use Rattle.typed.specs.declared.Answer.TheVariants as answer
 
 -- a number in decimal: of 1 to 10 digits the fewest that hold it
 unfoldable pub places : ℕ → ℕ
@@ -68,3 +67,10 @@ live_words c list = numbered live_word c colon ++ (spelled (take c list) ++ newl
 
 abbrev pub collected_words : Collected → List ℕ → List ℕ
 collected_words a list = said (collected_paper a).number (live_words (get_or (collected_paper a).values 0 0) list)
+
+-- an answer, with the list as it is then
+abbrev pub answer_words : Answer → List ℕ → List ℕ
+answer_words (answer.Allocated a) list = allocated_words a
+answer_words (answer.Written a) list = written_words a
+answer_words (answer.Collected a) list = collected_words a list
+answer_words answer.BadLine list = bad_line_words

@@ -1,5 +1,4 @@
 pub mod Answers
-pub mod Counts
 pub mod Digits
 pub mod Held
 pub mod Orders

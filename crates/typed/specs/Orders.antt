@@ -1,12 +1,9 @@
 -- What a line is answered, and the arena and the list after it: those of the call that it means. "A bad line changes nothing."
 -- Assumes nothing.
-use Rattle.std.specs.Prelude.{ℕ, ◌≡◌, List}
+use Rattle.std.specs.Prelude.{ℕ, ◌≡◌, List, Ok, Err}
 use Rattle.lines.specs.Line.{Meaning, allocates, links, collects, bad}
 use Rattle.model.specs.Calls.{Allocate, WriteReference, Collect}
-use Rattle.model.specs.declared.Allocated.{Allocated}
-use Rattle.model.specs.declared.Written.{Written}
-use Rattle.model.specs.declared.Collected.{Collected}
-use Rattle.model.specs.declared.Collected.TheVariants as collected
+use Rattle.model.specs.Numbers.{Allocated, Written, Collected}
 use Rattle.typed.specs.declared.Answer.{Answer}
 use Rattle.typed.specs.declared.Answer.TheVariants as answer
 
@@ -24,10 +21,8 @@ pub record Answered (m : Meaning) (ws list ws' list' : List ℕ) : Type 0 where
 
 -- so many handles of the list an answer speaks of
 abbrev pub live_count : Collected → ℕ
-live_count (collected.Live c) = c
-live_count collected.Unsound = 0
-live_count collected.BadRoot = 0
-live_count collected.ShortList = 0
+live_count (Ok c) = c
+live_count (Err e) = 0
 
 abbrev pub listed_count : Answer → ℕ
 listed_count (answer.Allocated a) = 0

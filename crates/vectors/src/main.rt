@@ -1,40 +1,35 @@
 // Document 01's examples, run: the expected numbers stand in the file stdout.
 #![tactic(auto)]
 
+use drawing::allocate::allocate;
 use drawing::ask::shape;
 use drawing::collect::collect;
 use drawing::make::make;
 use drawing::reference::write_reference;
-use model::{Collected, Handle, Shaped};
+use model::Handle;
 use std::io;
-use words::slices::wide;
 
-mod calls;
+mod arenas;
 mod print;
 mod refusals;
 
 fn handle(rt: &impl Print, arena: &mut [u32], n: u32) -> io::Result<()> {
-    print::number(rt, calls::given(arena, n, 0, 0).0)
+    print::number(rt, arenas::given(arena, n, 0, 0).0)
 }
 
 // "Four blocks with n = 1,023 get handles 1 to 4, the fifth is refused with 4, and after collecting with root 3 the next gets 1."
 fn four(rt: &impl Print, arena: &mut [u32], list: &mut [u32]) -> io::Result<()> {
-    make(arena, 1);
+    let _made = make(arena, 1);
     print::word(rt, b"n 1024: refused")?;
-    calls::allocates(rt, arena, 1024, 0)?;
+    print::answer(rt, &allocate(arena, 1024, 0, 7))?;
     print::word(rt, b"\nn 1023:")?;
-    handle(rt, arena, 1023)?;
-    handle(rt, arena, 1023)?;
-    handle(rt, arena, 1023)?;
-    handle(rt, arena, 1023)?;
-    fifth(rt, arena, list)
-}
-
-fn fifth(rt: &impl Print, arena: &mut [u32], list: &mut [u32]) -> io::Result<()> {
+    for _ in 0..4 {
+        handle(rt, arena, 1023)?;
+    }
     print::word(rt, b", fifth refused")?;
-    calls::allocates(rt, arena, 1023, 0)?;
+    print::answer(rt, &allocate(arena, 1023, 0, 7))?;
     print::word(rt, b", after root 3")?;
-    collect(arena, &[3], list);
+    let _live = collect(arena, &[3], list);
     handle(rt, arena, 1023)?;
     print::end(rt)
 }
@@ -43,24 +38,8 @@ fn fifth(rt: &impl Print, arena: &mut [u32], list: &mut [u32]) -> io::Result<()>
 fn leaf(rt: &impl Print, arena: &[u32], h: u32) -> io::Result<()> {
     print::number(rt, h)?;
     print::word(rt, b" tag")?;
-    match shape(arena, Handle(h)) {
-        Shaped::Is(s) => print::number(rt, s.tag as u32)?,
-        Shaped::Unsound => print::number(rt, 0)?,
-        Shaped::NoBlock => print::number(rt, 0)?,
-    }
+    print::number(rt, shape(arena, Handle(h)).map_or(0, |s| s.tag as u32))?;
     print::word(rt, b",")
-}
-
-fn leaves(rt: &impl Print, arena: &[u32], list: &[u32], c: u32) -> io::Result<()> {
-    let mut at = 0;
-    while at < list.len() {
-        if wide(c) <= at {
-            return Ok(());
-        }
-        leaf(rt, arena, list[at])?;
-        at += 1;
-    }
-    Ok(())
 }
 
 // Joins the two leaves to the panel, the left one twice, and lists the drawing.
@@ -72,32 +51,32 @@ fn panel(
     left: Handle,
     right: Handle,
 ) -> io::Result<()> {
-    write_reference(arena, panel, 0, left.0);
-    write_reference(arena, panel, 1, right.0);
-    write_reference(arena, panel, 2, left.0);
-    let roots = [panel.0];
-    if let Collected::Live(c) = collect(arena, &roots, list) {
-        leaves(rt, arena, list, c)?;
+    for (f, part) in [left, right, left].iter().enumerate() {
+        let _written = write_reference(arena, panel, f as u32, part.0);
+    }
+    let live = collect(arena, &[panel.0], list).unwrap_or(0);
+    for &h in list.iter().take(live as usize) {
+        leaf(rt, arena, h)?;
     }
     print::end(rt)
 }
 
 // The wall panel of the two leaves, its blocks allocated in two orders: the lists name the same leaves place by place.
 fn panel_first(rt: &impl Print, arena: &mut [u32], list: &mut [u32]) -> io::Result<()> {
-    make(arena, 1);
+    let _made = make(arena, 1);
     print::word(rt, b"panel first:")?;
-    let p = calls::given(arena, 3, 3, 7);
-    let left = calls::given(arena, 3, 0, 8);
-    let right = calls::given(arena, 3, 0, 9);
+    let p = arenas::given(arena, 3, 3, 7);
+    let left = arenas::given(arena, 3, 0, 8);
+    let right = arenas::given(arena, 3, 0, 9);
     panel(rt, arena, list, p, left, right)
 }
 
 fn panel_last(rt: &impl Print, arena: &mut [u32], list: &mut [u32]) -> io::Result<()> {
-    make(arena, 1);
+    let _made = make(arena, 1);
     print::word(rt, b"panel last:")?;
-    let right = calls::given(arena, 3, 0, 9);
-    let left = calls::given(arena, 3, 0, 8);
-    let p = calls::given(arena, 3, 3, 7);
+    let right = arenas::given(arena, 3, 0, 9);
+    let left = arenas::given(arena, 3, 0, 8);
+    let p = arenas::given(arena, 3, 3, 7);
     panel(rt, arena, list, p, left, right)
 }
 
