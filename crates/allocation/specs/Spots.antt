@@ -30,12 +30,6 @@ pub record FreeAt (ws : List ℕ) (i q k : ℕ) : Type 0 where
   pub ranked : q < members ws i
   pub inside : k ≤ blocks i
 
--- the class has segments, and so a place in one of them
-pub record AtPlace (ws : List ℕ) (i : ℕ) : Type 0 where
-  pub is_sound : sound ws ≡ true
-  pub class : is_class i ≡ true
-  pub some : 0 < members ws i
-
 -- the class has no untaken block, and q is its next rank
 pub record Joining (ws : List ℕ) (i q : ℕ) : Type 0 where
   pub few : segments ws ≤ 64

@@ -1,5 +1,4 @@
 // The block to give.
-ghost use Rattle.model.specs.View.{place_rank, place_index};
 ghost use Rattle.allocation.specs.Spots.{Search, FreeAt, FindsFree, Joining, Finds};
 
 use crate::pool::first_pool;

@@ -57,7 +57,7 @@ fn full_words(ws: &[u32]) -> u32
     requires { length ws.now ≤ 32 }
     ensures { result ≡ word_of_bits (λ b. full (word ws.now b)) }
 {
-    let mut w: u32 = 0;
+    let mut w = 0;
     for (b, below) in ws.iter().enumerate() {
         w = with_full(w, b as u32, *below);
     }
