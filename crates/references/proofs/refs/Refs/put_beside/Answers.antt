@@ -16,25 +16,6 @@ room c =
     let refs = c.self.inside in
     omega (arith, c.requires.room, c.put_columns-wrong.auto.rest, first_words refs.words.now c.self.invariant c.self.view_is, words_behind refs.words.now refs.count c.self.invariant)
 
-pub put_columns-wrong-requires : goal.put_columns-wrong-requires
-put_columns-wrong-requires c =
-    let p = c.requires in
-    let refs = c.self.inside in
-    record {
-      beside = p.beside;
-      enough = omega (arith, p.room, first_words refs.words.now c.self.invariant c.self.view_is, words_behind refs.words.now refs.count c.self.invariant);
-    }
-
-pub returns-then-wrong-ne0 : goal.returns-then-wrong-ne0
-returns-then-wrong-ne0 c =
-    let p = c.requires in
-    rw (ne_eqb _ _ c.if-wrong-ne0.true) at (added_beside p.beside c.args.self _ _ _ p.own (room (goal.at.returns-then-wrong-ne0 c).After-put_columns-wrong) c.put_columns-wrong.ensures)
-
-pub invariant_of-result : goal.invariant_of-result
-invariant_of-result c =
-    let refs = c.self.inside in
-    (omega (arith, c.requires.room, first_words refs.words.now c.self.invariant c.self.view_is), same_len_mid refs.count (4096 - refs.count) refs.words.now _ c.put_columns-wrong.auto.rest ∙ c.self.invariant.1)
-
 pub returns : goal.returns
 returns c =
     let p = c.requires in
