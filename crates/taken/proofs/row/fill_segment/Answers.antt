@@ -11,7 +11,7 @@ use Rattle.model.specs.Word.{word}
 use Rattle.model.specs.Class.{is_class, blocks}
 use Rattle.model.specs.View.{class}
 use Rattle.model.specs.Standing.{in_pool}
-use Rattle.words.proofs.ClassLaws.{class_bounds, blocks_most}
+use Rattle.words.proofs.ClassLaws.{blocks_most}
 use Rattle.taken.specs.Row.{taken_word}
 use Rattle.taken.proofs.RowLaws.{record_long, filled_pool, member_word, filled_step}
 use Rattle.taken.proofs.row.fill_segment.Goals as goal

@@ -1,10 +1,8 @@
 -- `references::refs::Refs::put_beside` meets its contract. Assumes nothing.
-use Prim.Native.Nat.{ℕ, ◌-◌, ◌*◌, ◌≤◌}
+use Prim.Native.Nat.{◌-◌, ◌*◌, ◌≤◌}
 use native.Mathlib.Omega.{arith}
-use mathlib.Core.Path.{◌∙◌}
-use lib.ListN.{length, take, drop}
-use borrow.Rule.Slice.PartMut.{same_len_mid}
-use borrow.Author.Tests.{eq-eqb, ne_eqb}
+use lib.ListN.{length, drop}
+use borrow.Author.Tests.{eq-eqb}
 use Rattle.references.proofs.GatherLaws.{first_words, words_behind, longer_words}
 use Rattle.references.proofs.BesideLaws.{added_beside}
 use Rattle.references.proofs.refs.Refs.put_beside.Goals as goal
