@@ -10,15 +10,15 @@ use Rattle.soundness.proofs.Tests.{and_left, and_right}
 use Rattle.arena.specs.Inside.{Classed}
 
 -- records that are right have the length and the classes that the taken row asks
-pub classed : (ws : List ℕ) → records_sound ws ≡ true → Classed ws
+pub classed : (ws : List ℕ) → true ≡ records_sound ws → Classed ws
 unfolding records_sound
 classed ws right =
     let after_classes = ranks ws && (levels ws && (counts ws && (behind ws && places ws))) in
-    let rest = and_right (unnamed_zero ws) (classes ws && after_classes) (and_right (sized ws) (unnamed_zero ws && (classes ws && after_classes)) right) in
-    classed_facts (and_left (sized ws) (unnamed_zero ws && (classes ws && after_classes)) right) (and_left (classes ws) after_classes rest)
+    let rest = and_right (unnamed_zero ws) (classes ws && after_classes) (and_right (sized ws) (unnamed_zero ws && (classes ws && after_classes)) (sym right)) in
+    classed_facts (and_left (sized ws) (unnamed_zero ws && (classes ws && after_classes)) (sym right)) (and_left (classes ws) after_classes rest)
 
-pub refused : (ws : List ℕ) (right : Bool) → right ≡ records_sound ws → right ≡ false → false ≡ sound ws
-refused ws right e no_right = sym (sound_is ws ∙ ap (λ (t : Bool). t && taken_right ws) (sym e ∙ no_right))
+pub refused : (ws : List ℕ) → false ≡ records_sound ws → false ≡ sound ws
+refused ws wrong = sym (sound_is ws ∙ ap (λ (t : Bool). t && taken_right ws) (sym wrong))
 
-pub joined : (ws : List ℕ) (right answer : Bool) → right ≡ records_sound ws → right ≡ true → answer ≡ taken_right ws → answer ≡ sound ws
-joined ws right answer e yes_right f = f ∙ sym (sound_is ws ∙ ap (λ (t : Bool). t && taken_right ws) (sym e ∙ yes_right))
+pub joined : (ws : List ℕ) (answer : Bool) → true ≡ records_sound ws → answer ≡ taken_right ws → answer ≡ sound ws
+joined ws answer right e = e ∙ sym (sound_is ws ∙ ap (λ (t : Bool). t && taken_right ws) (sym right))

@@ -8,8 +8,8 @@ use native.Mathlib.Nat.{mul-add, mul-suc, add-zero, mul-le-mul_left, mul-le-mul_
 use native.Mathlib.Omega.{arith}
 use Rattle.std.proofs.Common.{Option, Some, None}
 use lib.Dec.{eqb}
-use lib.ListN.{length, take, set, length-append}
-use lib.Seq.{get_or-set_same, get_or-set_other, length-take-le}
+use lib.ListN.{length, take, length-append}
+use lib.Seq.{length-take-le}
 use borrow.Author.Count.{below_more}
 use borrow.Author.Tests.{lt-ltb, le-ltb, ne_eqb}
 use Rattle.model.specs.Below.{one_if, all_below}
@@ -23,7 +23,7 @@ use Rattle.words.proofs.ClassLaws.{bounds_class, blocks_fill}
 use Rattle.words.proofs.HandleLaws.{block_in_arena}
 use Rattle.taken.specs.Row.{all_words}
 use Rattle.references.specs.Gather.{header_right, references_in, headed, references_of, GatheredBelow, Of, AtFull}
-use Rattle.references.specs.Beside.{Beside, beside, reference_or_none, FieldsPut, InColumns, PutBeside, AddedBeside}
+use Rattle.references.specs.Beside.{Beside, beside, reference_or_none, FieldsPut, InColumns, AddedBeside}
 use Rattle.taken.proofs.RowLaws.{all_words_append}
 use Rattle.references.proofs.GatherLaws.{all_words_take, all_words_part, header_room, headed_taken, references_taken, block_handed}
 
@@ -47,21 +47,6 @@ by_rows (suc n) q =
     let more : 32 * suc n ≡ 32 * n + 32 = omega arith in
     ap (λ (m : ℕ). all_below m q) more ∙ all_below_add (32 * n) 32 q
     ∙ ap (λ (t : Bool). t && all_below 32 (λ k. q (32 * n + k))) (by_rows n q)
-
--- ---- putting columns
-
-pub fields_none : (b : List ℕ) (k : ℕ) (rest : List ℕ) → FieldsPut b k 0 rest rest
-fields_none b k rest = record { others = λ o _. refl; fields = λ f l. absurd (omega arith) }
-
-pub fields_step : {b : List ℕ} {k n : ℕ} {rest rest' : List ℕ} (v : ℕ) → FieldsPut b k n rest rest' → v ≡ reference_or_none b n → 32 * n + k < length rest'
-    → FieldsPut b k (n + 1) rest (set rest' (32 * n + k) v)
-fields_step {b} {k} {n} {rest} {rest'} v h e l = record {
-  others = λ o apart.
-      get_or-set_other rest' (32 * n + k) o v 0 (apart n (omega arith)) ∙ h.others o (λ f u. apart f (omega arith));
-  fields = below_more (λ (f : ℕ). word (set rest' (32 * n + k) v) (32 * f + k) ≡ reference_or_none b f) n
-      (λ f u. get_or-set_other rest' (32 * n + k) (32 * f + k) v 0 (λ q. omega arith) ∙ h.fields f u)
-      (get_or-set_same rest' (32 * n + k) v 0 l ∙ e);
-}
 
 -- ---- one block: its references, and zeros
 

@@ -1,18 +1,17 @@
 -- Laws of gathering: the references of a segment's taken blocks end to end, block by block, by the set bits of a word, and word by word.
 -- Assumes nothing.
-use Prim.Native.Nat.{ℕ, suc, ◌+◌, ◌-◌, ◌*◌, ◌^◌, ◌≤◌, ◌<◌}
+use Prim.Native.Nat.{ℕ, ◌+◌, ◌-◌, ◌*◌, ◌^◌, ◌≤◌, ◌<◌}
 use mathlib.Core.Path.{◌≡◌, refl, sym, ap, ap₂, subst, ◌∙◌}
 use mathlib.Core.Bool.{Bool, true, false, not, ◌&&◌, ◌||◌, and-true, and-false, and-eq-true_iff, false≢true}
-use mathlib.Core.List.{List, [], ◌∷◌, ◌++◌, append_assoc}
+use mathlib.Core.List.{List, [], ◌++◌}
 use native.Mathlib.Nat.{mul-add, mul-le-mul_left, mul-le-mul_right}
-use native.Mathlib.Numerals.{add-one}
 use native.Mathlib.Omega.{arith}
 use Rattle.std.proofs.Common.{Option, Some, None}
 use lib.Dec.{eqb, leb, ltb}
 use lib.Bits.{bit_and, and_le_r}
 use lib.Count.{count_trailing_zeros, trailing_le, trailing_of_zero}
-use lib.ListN.{length, take, drop, set, length-append, length-take, length-drop}
-use lib.Seq.{length-take-le, get_or-take, take-take, take-append-le, take-append-add, take-suc, take-suc-set, get_or-drop}
+use lib.ListN.{length, take, drop, length-append, length-take, length-drop}
+use lib.Seq.{length-take-le, get_or-take, take-append-le, take-append-add}
 use borrow.Author.Tests.{le-ltb, ltb-true, ltb-false, eqb-true, eqb-false, ne_eqb, leb-true}
 use Rattle.model.specs.Below.{all_below}
 use Rattle.model.specs.Word.{word, part, bit}
@@ -26,7 +25,7 @@ use Rattle.laws.proofs.Splice.{length_part, word_part}
 use Rattle.words.proofs.ClassLaws.{class_rule, bounds_class, class_room}
 use Rattle.words.proofs.HandleLaws.{block_inside, block_in_arena}
 use Rattle.taken.specs.Row.{all_words, TakenRow}
-use Rattle.references.specs.Gather.{header_right, references_in, headed, references_of, Copied, Added, Gathered, GatheredBelow, Of, AtWord}
+use Rattle.references.specs.Gather.{header_right, references_in, headed, references_of, Added, Gathered, GatheredBelow, Of, AtWord}
 use Rattle.taken.proofs.RowLaws.{all_words_append, taken_at_inside, is_taken_at, row_bit_taken}
 
 -- ---- a test of each word of a list
@@ -60,25 +59,6 @@ pub longer_words : (words rest post : List ℕ) {refs : List ℕ} {n : ℕ} (m :
 longer_words words rest post {refs} {n} m (l, e) same u =
     ap (λ (k : ℕ). take (k + m) (take n words ++ (rest ++ post))) (sym (length-take-le n words (omega arith)))
     ∙ take-append-add (take n words) (rest ++ post) m ∙ ap₂ ◌++◌ same (take-append-le m rest post u)
-
--- ---- copying the words of a block
-
--- one word more
-pub copied_step : {b rest : List ℕ} {f : ℕ} → Copied b f rest → f + 1 < length b → f < length rest → Copied b (f + 1) (set rest f (word b (1 + f)))
-copied_step {b} {rest} {f} c l u =
-    record { words = ap (λ (n : ℕ). take n (set rest f v)) (add-one f) ∙ take-suc-set rest f v u ∙ ap (λ (xs : List ℕ). xs ++ (v ∷ [])) c.words ∙ sym longer }
-  where
-    v : ℕ
-    v = word b (1 + f)
-
-    longer : part b 1 (f + 1) ≡ part b 1 f ++ (v ∷ [])
-    longer =
-        ap (λ (n : ℕ). take n (drop 1 b)) (add-one f) ∙ take-suc (drop 1 b) f 0 (simp length-drop (omega arith))
-        ∙ ap (λ (x : ℕ). part b 1 f ++ (x ∷ [])) (get_or-drop 1 b f 0)
-
--- fewer of them than were copied
-pub copied_less : {b rest : List ℕ} {w : ℕ} (r : ℕ) → Copied b w rest → r ≤ w → Copied b r rest
-copied_less {b} {rest} {w} r c l = record { words = sym (take-take r w rest l) ∙ ap (take r) c.words ∙ take-take r w (drop 1 b) l }
 
 -- ---- headers
 

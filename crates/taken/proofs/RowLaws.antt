@@ -3,20 +3,18 @@
 use Prim.Native.Nat.{ℕ, zero, suc, ◌+◌, ◌-◌, ◌*◌, ◌/◌, ◌%◌, ◌^◌, ◌≤◌, ◌<◌}
 use mathlib.Core.Path.{◌≡◌, refl, sym, ap, ap₂, ◌∙◌}
 use mathlib.Core.Bool.{Bool, true, false, not, ◌&&◌, ◌||◌, and_comm, and-false}
-use mathlib.Core.Logic.{◌⊎◌, inl, inr}
+use mathlib.Core.Logic.{inl, inr}
 use mathlib.Core.List.{List, ◌++◌}
-use native.Mathlib.Nat.{add-zero}
 use native.Mathlib.Numerals.{add-one}
 use native.Mathlib.Omega.{arith}
 use Rattle.std.proofs.Common.{sum_by}
 use Rattle.std.proofs.lemmas.List.Sums.{sum_by_more}
 use lib.Dec.{eqb, ltb}
-use lib.ListN.{length, set, replicate, take, drop, length-drop, length-set, length-replicate, get_or-replicate, get_or-eq_default, length-append, get_or-append}
+use lib.ListN.{length, replicate, take, drop, length-drop, length-replicate, get_or-replicate, get_or-eq_default, length-append, get_or-append}
 use native.Mathlib.Decide.{dec_lt}
-use lib.Seq.{get_or-set_same, get_or-set_other, get_or-drop, get_or-append-add}
+use lib.Seq.{get_or-drop, get_or-append-add}
 use lib.Bits.{bit_and, bit_or, or_lt, and_lt, or_add_and, and_le_l, and_le_r}
 use lib.Pow.{shr_le}
-use borrow.Author.Count.{below_more}
 use borrow.Author.Tests.{lt-ltb, le-ltb, eq-eqb, ne_eqb, ltb-true, ltb-false}
 use Rattle.model.specs.Below.{count_below, all_below as every}
 use Rattle.model.specs.Word.{word, bit, ones, word_of_bits}
@@ -28,7 +26,7 @@ use Rattle.laws.proofs.Below.{all_below_ext, all_below_add, count_below_ext, cou
 use Rattle.laws.proofs.Splice.{length_part}
 use Rattle.laws.proofs.Bits.{bit_zero, bit_ones, bit_past, bit_pow, bit_shift, bit_of_and, bit_of_or, bit_word_of_bits, word_of_bits_lt, word_of_bits_ext, word_ext}
 use Rattle.arena.specs.Rows.{row_bit}
-use Rattle.taken.specs.Row.{asked_bit, TakenRow, row_taken, row_none_or_taken, Limit, row_word, Filled, ZeroRow, Blank, Fill, taken_word, Segment, all_words, seen_right}
+use Rattle.taken.specs.Row.{asked_bit, TakenRow, row_taken, row_none_or_taken, Limit, row_word, Filled, ZeroRow, Fill, taken_word, Segment, all_words, seen_right}
 
 -- ---- the word of the ones below a limit
 
@@ -105,25 +103,6 @@ pub record_long : (ws : List ℕ) (s : ℕ) → length ws ≡ arena_length (segm
 unfolding record_of
 record_long ws s e l = length_part ws (record_at s) 68 (omega arith)
 
--- one word more
-pub segment_step : {rec : List ℕ} {limit blocks : ℕ} {row row' : List ℕ} {at j : ℕ} (o v : ℕ) → Segment rec limit blocks row row' at j
-    → o ≡ at + j → o < 8192 → v ≡ taken_word (word rec (1 + j)) limit blocks j → Segment rec limit blocks row (set row' o v) at (j + 1)
-segment_step {rec} {limit} {blocks} {row} {row'} {at} {j} o v h e l w = record {
-  long = length-set row' o v ∙ h.long;
-  others = λ p u. get_or-set_other row' o p v 0 (apart p u) ∙ h.others p (fewer p u);
-  words = below_more (λ (i : ℕ). word (set row' o v) (at + i) ≡ taken_word (word rec (1 + i)) limit blocks i) j
-      (λ i u. get_or-set_other row' o (at + i) v 0 (λ q. omega arith) ∙ h.words i u)
-      (ap (word (set row' o v)) (sym e) ∙ get_or-set_same row' o v 0 (omega (arith, h.long)) ∙ w);
-}
-  where
-    apart : (p : ℕ) → (p < at) ⊎ (at + (j + 1) ≤ p) → p ≡ o → ⊥
-    apart p (inl u) q = omega arith
-    apart p (inr u) q = omega arith
-
-    fewer : (p : ℕ) → (p < at) ⊎ (at + (j + 1) ≤ p) → (p < at) ⊎ (at + j ≤ p)
-    fewer p (inl u) = inl u
-    fewer p (inr u) = inr (omega arith)
-
 -- ---- taken, segment by segment
 
 -- a segment in the pool has no taken block
@@ -188,9 +167,6 @@ zeros n o = go (dec_lt o n)
 
 pub zero_row : ZeroRow (replicate 8192 0)
 zero_row = record { long = length-replicate {A = ℕ} 8192 0; zero = zeros 8192 }
-
-pub blank_filled : {ws row : List ℕ} → Blank row → Filled ws row 0
-blank_filled b = record { long = b.long; first = b.first; right = λ o l. absurd (omega arith); behind = λ o _. b.behind o }
 
 -- a segment in the pool needs no words
 pub filled_pool : {ws row : List ℕ} {s : ℕ} → Fill ws row s → in_pool ws s ≡ true → Filled ws row (64 * s + 64)
@@ -349,11 +325,6 @@ count_words row (suc n) l =
     ∙ sum_by_more (λ w. count_below 32 (bit w)) (drop 1 row) n 0 (simp length-drop (omega arith))
     ∙ ap₂ ◌+◌ (count_words row n (omega arith)) (ap (λ (w : ℕ). count_below 32 (bit w)) (get_or-drop 1 row n 0))
     ∙ sym (count_word row n) ∙ ap (λ (m : ℕ). count_below (32 * m) (λ x. row_bit row (x + 1))) (add-one n)
-
--- `row[at / 32 % 8192] >> (at % 32)`
-pub asked_is : (row : List ℕ) (h : ℕ) → bit (word row ((h + 31) / 32 % 8192) / 2 ^ ((h + 31) % 32)) 0 ≡ asked_bit row h
-asked_is row h =
-    bit_shift (word row ((h + 31) / 32 % 8192)) ((h + 31) % 32) 0 ∙ ap (bit (word row ((h + 31) / 32 % 8192))) (add-zero ((h + 31) % 32))
 
 -- ---- asking it of many words
 

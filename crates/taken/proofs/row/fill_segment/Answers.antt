@@ -11,7 +11,7 @@ use Rattle.model.specs.Word.{word}
 use Rattle.model.specs.Class.{is_class, blocks}
 use Rattle.model.specs.View.{class}
 use Rattle.model.specs.Standing.{in_pool}
-use Rattle.words.proofs.ClassLaws.{class_bounds, blocks_most}
+use Rattle.words.proofs.ClassLaws.{blocks_most}
 use Rattle.taken.specs.Row.{taken_word}
 use Rattle.taken.proofs.RowLaws.{record_long, filled_pool, member_word, filled_step}
 use Rattle.taken.proofs.row.fill_segment.Goals as goal
@@ -29,21 +29,6 @@ few c = blocks_most _ (classed c)
 
 pub returns-then-class-eq0 : goal.returns-then-class-eq0
 returns-then-class-eq0 c = filled_pool c.requires (eq-eqb _ 0 (sym c.class-class.ensures ∙ c.if-class-eq0.true))
-
-pub limit_of-requires : goal.limit_of-requires
-limit_of-requires c =
-    let a = c.args in
-    let p = c.requires in
-    let same = c.class-class.ensures in
-    let bounds = class_bounds (class a.arena.now a.s) (classed (goal.at.limit_of-requires c).Else-class-eq0) in
-    record {
-      few = p.classed.few;
-      long = p.classed.long;
-      there = p.there;
-      class = same;
-      low = omega (arith, same, bounds.0);
-      high = omega (arith, same, bounds.1);
-    }
 
 pub fill_words-requires : goal.fill_words-requires
 fill_words-requires c =

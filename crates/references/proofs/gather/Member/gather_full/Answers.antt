@@ -20,11 +20,6 @@ four c =
     let same : c.args.self.class ≡ 4 = omega (arith, c.requires.small, c.args.self.of.member.low, c.if-self-eq3.false) in
     ap block_words same
 
-pub words_from-requires : goal.words_from-requires
-words_from-requires c =
-    let p = c.requires in
-    record { inside = omega (arith, p.inside); within = omega (arith, full_within c.args.self.of p, two (goal.at.words_from-requires c).Then-self-eq3) }
-
 pub put_beside-requires : goal.put_beside-requires
 put_beside-requires c =
     let p = c.requires in
@@ -38,11 +33,6 @@ put_beside-requires c =
 
 pub returns-then-self-eq3 : goal.returns-then-self-eq3
 returns-then-self-eq3 c = full_gathered c.args.self.of c.requires c.put_beside.result (sym (two (goal.at.returns-then-self-eq3 c).Then-self-eq3)) c.words_from.ensures c.put_beside.ensures
-
-pub words_from-requires-2 : goal.words_from-requires-2
-words_from-requires-2 c =
-    let p = c.requires in
-    record { inside = omega (arith, p.inside); within = omega (arith, full_within c.args.self.of p, four (goal.at.words_from-requires-2 c).Else-self-eq3) }
 
 pub put_beside-requires-2 : goal.put_beside-requires-2
 put_beside-requires-2 c =

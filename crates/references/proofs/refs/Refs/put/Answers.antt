@@ -4,25 +4,8 @@ use native.Mathlib.Omega.{arith}
 use mathlib.Core.Path.{ap, ◌∙◌}
 use mathlib.Core.List.{List, ◌++◌}
 use lib.ListN.{length, drop}
-use borrow.Rule.Slice.PartMut.{same_len_mid}
 use Rattle.references.proofs.GatherLaws.{first_words, words_behind, longer_words}
 use Rattle.references.proofs.refs.Refs.put.Goals as goal
-
-pub put_references-requires : goal.put_references-requires
-put_references-requires c =
-    let p = c.requires in
-    let refs = c.self.inside in
-    record {
-      some = p.some;
-      inside = p.inside;
-      enough = omega (arith, p.enough, first_words refs.words.now c.self.invariant c.self.view_is, words_behind refs.words.now refs.count c.self.invariant);
-    }
-
-pub invariant_of-result : goal.invariant_of-result
-invariant_of-result c =
-    let p = c.requires in
-    let refs = c.self.inside in
-    (omega (arith, p.inside, p.enough, first_words refs.words.now c.self.invariant c.self.view_is), same_len_mid refs.count (4096 - refs.count) refs.words.now _ c.put_references.auto.rest ∙ c.self.invariant.1)
 
 pub returns : goal.returns
 returns c =

@@ -1,10 +1,8 @@
 -- `references::refs::Refs::put_beside` meets its contract. Assumes nothing.
-use Prim.Native.Nat.{ℕ, ◌-◌, ◌*◌, ◌≤◌}
+use Prim.Native.Nat.{◌-◌, ◌*◌, ◌≤◌}
 use native.Mathlib.Omega.{arith}
-use mathlib.Core.Path.{◌∙◌}
-use lib.ListN.{length, take, drop}
-use borrow.Rule.Slice.PartMut.{same_len_mid}
-use borrow.Author.Tests.{eq-eqb, ne_eqb}
+use lib.ListN.{length, drop}
+use borrow.Author.Tests.{eq-eqb}
 use Rattle.references.proofs.GatherLaws.{first_words, words_behind, longer_words}
 use Rattle.references.proofs.BesideLaws.{added_beside}
 use Rattle.references.proofs.refs.Refs.put_beside.Goals as goal
@@ -15,25 +13,6 @@ room : (c : After-put_columns-wrong) → 32 * (c.args.size - 1) ≤ length c.put
 room c =
     let refs = c.self.inside in
     omega (arith, c.requires.room, c.put_columns-wrong.auto.rest, first_words refs.words.now c.self.invariant c.self.view_is, words_behind refs.words.now refs.count c.self.invariant)
-
-pub put_columns-wrong-requires : goal.put_columns-wrong-requires
-put_columns-wrong-requires c =
-    let p = c.requires in
-    let refs = c.self.inside in
-    record {
-      beside = p.beside;
-      enough = omega (arith, p.room, first_words refs.words.now c.self.invariant c.self.view_is, words_behind refs.words.now refs.count c.self.invariant);
-    }
-
-pub returns-then-wrong-ne0 : goal.returns-then-wrong-ne0
-returns-then-wrong-ne0 c =
-    let p = c.requires in
-    rw (ne_eqb _ _ c.if-wrong-ne0.true) at (added_beside p.beside c.args.self _ _ _ p.own (room (goal.at.returns-then-wrong-ne0 c).After-put_columns-wrong) c.put_columns-wrong.ensures)
-
-pub invariant_of-result : goal.invariant_of-result
-invariant_of-result c =
-    let refs = c.self.inside in
-    (omega (arith, c.requires.room, first_words refs.words.now c.self.invariant c.self.view_is), same_len_mid refs.count (4096 - refs.count) refs.words.now _ c.put_columns-wrong.auto.rest ∙ c.self.invariant.1)
 
 pub returns : goal.returns
 returns c =
