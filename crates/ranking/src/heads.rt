@@ -3,10 +3,10 @@ ghost use Rattle.std.specs.Prelude.{◌≡◌, ◌≤◌, ◌<◌};
 ghost use Rattle.ranking.specs.Heads.{rank_by, head_by, HeadOf, HeadsOf, Heads};
 
 use crate::groups::Group;
-use crate::keys::{Keyed, key, key_class, key_group, keys_in};
+use crate::keys::{SegmentKeys, key, key_class, key_group, keys_in};
 use words::fields::record_head;
 
-impl Keyed {
+impl SegmentKeys {
     // "Full ones first, then the rest, each group in its former order."
     fn new_rank(&self, own: u32) -> u32
         requires { own < 16384 }

@@ -44,14 +44,14 @@ fn key_of(arena: &[u32], lives: &[u32; 64], s: u32) -> u32
 
 // The keys of the n segments of an arena.
 #[derive(Drop)]
-pub struct Keyed {
+pub struct SegmentKeys {
     pub n: u32,
     pub keys: [u32; 64],
     ghost few: { n ≤ 64 },
 }
 
-impl Keyed {
-    pub fn of(arena: &[u32], lives: &[u32; 64]) -> Keyed
+impl SegmentKeys {
+    pub fn of(arena: &[u32], lives: &[u32; 64]) -> SegmentKeys
         requires { Whole arena.now }
         ensures all { result.n ≡ segments arena.now }
         ensures keys { Keys arena.now lives.now result.keys }
@@ -61,7 +61,7 @@ impl Keyed {
         for s in 0..n {
             keys[s as usize] = key_of(arena, lives, s);
         }
-        Keyed { n, keys }
+        SegmentKeys { n, keys }
     }
 }
 

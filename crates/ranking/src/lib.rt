@@ -11,7 +11,7 @@
 
 ghost use Rattle.ranking.specs.Anew.{Reached, Anew};
 
-use crate::keys::Keyed;
+use crate::keys::SegmentKeys;
 use crate::live::count;
 use crate::places::write_places;
 use crate::records::write_records;
@@ -32,9 +32,9 @@ pub fn rank_anew(arena: &mut [u32], marks: &[u32])
     ensures { Anew arena.old marks.now arena.new }
 {
     let lives = count(marks, segments(arena));
-    let keyed = Keyed::of(arena, &lives);
-    let heads = keyed.new_heads(&lives);
-    let places = keyed.new_places();
+    let keys = SegmentKeys::of(arena, &lives);
+    let heads = keys.new_heads(&lives);
+    let places = keys.new_places();
     write_records(arena, &heads, marks);
     write_places(arena, &places);
 }

@@ -4,7 +4,7 @@ ghost use Rattle.model.specs.Word.{put};
 ghost use Rattle.ranking.specs.Places.{PlaceFor, place_for, place_by, Places, WritePlaces};
 
 use crate::groups::Group;
-use crate::keys::{Keyed, key, keys_in};
+use crate::keys::{SegmentKeys, key, keys_in};
 use std::array;
 use words::class::blocks;
 use words::fields::place;
@@ -24,7 +24,7 @@ fn place_for(class: u32, full: u32, m: u32) -> u32
     }
 }
 
-impl Keyed {
+impl SegmentKeys {
     fn new_place(&self, class: u32) -> u32
         requires { (3 ≤ class) × (class ≤ 12) }
         ensures { result ≡ place_by self.now.keys self.now.n class }

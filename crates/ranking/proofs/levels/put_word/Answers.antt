@@ -25,9 +25,6 @@ bounds-rec-at c = omega (arith, c.requires.long, within (goal.at.bounds-rec-at c
 pub bounds-rec-at-then-both : goal.bounds-rec-at-then-both
 bounds-rec-at-then-both c = omega (arith, c.requires.long, within (goal.at.bounds-rec-at-then-both c).Start)
 
-pub overflow_mul-j : goal.overflow_mul-j
-overflow_mul-j c = record { fits = omega (arith, within (goal.at.overflow_mul-j c).Start) }
-
 pub set_bit-requires : goal.set_bit-requires
 set_bit-requires c =
     let a = c.args in
@@ -37,11 +34,6 @@ set_bit-requires c =
       right = put_right a.rec.now a.class a.j a.w c.requires c.ranges.w.fits _ c.if-both.true (omega (arith, c.if-both.true));
       block = omega (arith, first (goal.at.set_bit-requires c).Start);
     }
-
-pub shape_of-rec-then-both : goal.shape_of-rec-then-both
-shape_of-rec-then-both c =
-    let a = c.args in
-    c.set_bit.auto.rec ∙ length-set a.rec.now (1 + a.j) _
 
 pub returns-then-both : goal.returns-then-both
 returns-then-both c =

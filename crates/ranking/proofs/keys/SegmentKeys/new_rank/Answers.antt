@@ -1,7 +1,7 @@
--- `ranking::keys::Keyed::new_rank` meets its contract. Assumes nothing.
+-- `ranking::keys::SegmentKeys::new_rank` meets its contract. Assumes nothing.
 use native.Mathlib.Omega.{arith}
 use Rattle.ranking.specs.Heads.{rank_by}
-use Rattle.ranking.proofs.keys.Keyed.new_rank.Goals as goal
+use Rattle.ranking.proofs.keys.SegmentKeys.new_rank.Goals as goal
 
 pub returns : goal.returns
 unfolding rank_by

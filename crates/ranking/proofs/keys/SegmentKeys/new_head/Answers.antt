@@ -1,11 +1,11 @@
--- `ranking::keys::Keyed::new_head` meets its contract. Assumes nothing.
+-- `ranking::keys::SegmentKeys::new_head` meets its contract. Assumes nothing.
 use Prim.Native.Nat.{ℕ}
 use mathlib.Core.Path.{sym, ap₂, ◌∙◌}
 use borrow.Author.Tests.{eq-eqb, ne_eqb}
 use Rattle.model.specs.Word.{word}
 use Rattle.model.specs.Layout.{record_head}
 use Rattle.ranking.specs.Heads.{head_by}
-use Rattle.ranking.proofs.keys.Keyed.new_head.Goals as goal
+use Rattle.ranking.proofs.keys.SegmentKeys.new_head.Goals as goal
 
 pub returns-then-key_group : goal.returns-then-key_group
 unfolding head_by
