@@ -1,18 +1,17 @@
 -- A granted write keeps the arena sound, takes and frees no block, and leaves every other block's words. Assumes nothing.
 use Prim.Native.Nat.{ℕ, ◌+◌, ◌-◌, ◌<◌}
 use native.Mathlib.Omega.{arith}
-use mathlib.Core.Bool.{Bool, true, false, not}
+use mathlib.Core.Bool.{true}
 use mathlib.Core.List.{List, [], ◌∷◌}
 use mathlib.Core.Logic.{◌≢◌}
-use mathlib.Core.Path.{◌≡◌, refl, sym, ap, ◌∙◌}
-use lib.Dec.{ltb}
-use borrow.Author.Tests.{ltb-true}
+use mathlib.Core.Path.{◌≡◌, ap, ◌∙◌}
+use Rattle.std.proofs.lemmas.Bool.Decides.{nat_tests}
 use Rattle.model.specs.Word.{put}
 use Rattle.model.specs.Layout.{handle, segment_of, index_of}
 use Rattle.model.specs.View.{block_of, block, n_in, r_in}
 use Rattle.model.specs.Standing.{is_block, is_taken, none_or_taken, taken_count}
 use Rattle.model.specs.Sound.{sound}
-use Rattle.model.specs.Numbers.{Written, refuse, written_paper}
+use Rattle.model.specs.Numbers.{Written, written_paper}
 use Rattle.model.specs.Calls.{WriteReference, WritePlain}
 use Rattle.words.proofs.HandleLaws.{handle_back}
 use Rattle.soundness.proofs.Facts.{block_facts, sound_facts, facts_sound}
@@ -41,31 +40,24 @@ kept ws h o v ws' some w = record {
       (λ es ek. apart (ap (λ (t : ℕ). handle t k) es ∙ ap (handle (segment_of h)) ek ∙ handle_back h some));
 }
 
-passed : (e x : ℕ) (t : Bool) → e ≢ 0 → refuse e (not t) x ≡ 0 → (t ≡ true) × (x ≡ 0)
-passed e x true some none = (refl, none)
-passed e x false some none = absurd (some none)
-
 -- ---- the two writes
 
 module _ (ws : List ℕ) (h f v : ℕ) (a : Written) (ws' : List ℕ) (granted : (written_paper a).number ≡ 0) where
   pub kept_reference : WriteReference ws h f v a ws' → Kept ws h (1 + f) v ws'
   kept_reference o =
-      let is_field : Bool = ltb f (r_in (block ws h)) in
-      let is_value : Bool = none_or_taken ws v in
-      let two = passed 2 (refuse 5 (not (is_taken ws h)) (refuse 6 (not is_field) (refuse 7 (not is_value) 0))) (sound ws) (λ z. omega arith) (sym (number_is o) ∙ granted) in
-      let five = passed 5 (refuse 6 (not is_field) (refuse 7 (not is_value) 0)) (is_taken ws h) (λ z. omega arith) two.1 in
-      let six = passed 6 (refuse 7 (not is_value) 0) is_field (λ z. omega arith) five.1 in
-      let seven = passed 7 0 is_value (λ z. omega arith) six.1 in
+      let none = number_is o in
+      let s : sound ws ≡ true = grind (arith, nat_tests) in
+      let t : is_taken ws h ≡ true = grind (arith, nat_tests) in
+      let its : f < r_in (block ws h) = grind (arith, nat_tests) in
+      let good : none_or_taken ws v ≡ true = grind (arith, nat_tests) in
       rw (words_granted o granted)
-      (kept ws h (1 + f) v _ (handle_facts ws h five.0).positive
-      (writes.written_reference ws (sound_facts ws two.0) h five.0 f v (ltb-true f (r_in (block ws h)) six.0) seven.0))
+      (kept ws h (1 + f) v _ (handle_facts ws h t).positive (writes.written_reference ws (sound_facts ws s) h t f v its good))
 
   pub kept_plain : WritePlain ws h f v a ws' → Kept ws h (1 + r_in (block ws h) + f) v ws'
   kept_plain o =
-      let is_field : Bool = ltb f (n_in (block ws h) - r_in (block ws h)) in
-      let two = passed 2 (refuse 5 (not (is_taken ws h)) (refuse 6 (not is_field) 0)) (sound ws) (λ z. omega arith) (sym (number_is o) ∙ granted) in
-      let five = passed 5 (refuse 6 (not is_field) 0) (is_taken ws h) (λ z. omega arith) two.1 in
-      let six = passed 6 0 is_field (λ z. omega arith) five.1 in
+      let none = number_is o in
+      let s : sound ws ≡ true = grind (arith, nat_tests) in
+      let t : is_taken ws h ≡ true = grind (arith, nat_tests) in
+      let its : f < n_in (block ws h) - r_in (block ws h) = grind (arith, nat_tests) in
       rw (words_granted o granted)
-      (kept ws h (1 + r_in (block ws h) + f) v _ (handle_facts ws h five.0).positive
-      (writes.written_plain ws (sound_facts ws two.0) h five.0 f v (ltb-true f (n_in (block ws h) - r_in (block ws h)) six.0)))
+      (kept ws h (1 + r_in (block ws h) + f) v _ (handle_facts ws h t).positive (writes.written_plain ws (sound_facts ws s) h t f v its))

@@ -1,18 +1,18 @@
 -- A made arena is sound, no block of it is taken, and it grants any allocation of a right shape. Assumes nothing.
 use Prim.Native.Nat.{ℕ, zero, suc, ◌+◌, ◌-◌, ◌*◌, ◌≤◌, ◌<◌}
 use native.Mathlib.Omega.{arith}
-use native.Mathlib.Decide.{dec_lt}
 use mathlib.Core.Path.{◌≡◌, refl, sym, ap, ◌∙◌}
-use mathlib.Core.Logic.{◌⊎◌, inl, inr}
 use mathlib.Core.Bool.{Bool, true, false, or-true}
 use mathlib.Core.List.{List}
-use lib.ListN.{length, replicate, length-replicate, get_or-replicate, get_or-eq_default}
+use lib.ListN.{length, replicate, length-replicate}
 use lib.Seq.{ext_get_or}
+use Rattle.std.proofs.lemmas.Bool.Decides.{nat_tests}
+use Rattle.std.proofs.lemmas.Grind.{common_steps}
 use Rattle.model.specs.Word.{word, field, unnamed}
 use Rattle.model.specs.Class.{is_class}
 use Rattle.model.specs.Layout.{arena_length, place_at, record_at}
 use Rattle.model.specs.View.{segments, record_of, class, members}
-use Rattle.model.specs.Standing.{in_pool, is_taken, taken_count}
+use Rattle.model.specs.Standing.{is_taken, taken_count}
 use Rattle.model.specs.Sound.{sound}
 use Rattle.model.specs.Calls.{fresh, has_pool, allocate_refusal}
 use Rattle.laws.proofs.Below.{count_below_none}
@@ -22,15 +22,10 @@ use lib.Dec.{eqb}
 use borrow.Author.Tests.{ne_eqb, eqb-false, le-ltb}
 use Rattle.soundness.proofs.Facts.{Sound, Sized, Member, record_length, record_word, facts_sound, taken_block}
 use Rattle.soundness.proofs.Taken.{handle_facts}
-use Rattle.soundness.proofs.Tests.{either, never}
 use Rattle.growth.proofs.Room.{empty_pool}
 
 zeros : (n o : ℕ) → word (replicate n 0) o ≡ 0
-zeros n o = go (dec_lt o n)
-  where
-    go : Dec (o < n) → word (replicate n 0) o ≡ 0
-    go (yes l) = get_or-replicate n o 0 0 l
-    go (no l) = get_or-eq_default (replicate n 0) 0 (omega (arith, length-replicate {A = ℕ} n 0))
+zeros n o = grind (arith, common_steps)
 
 module _ (N : ℕ) (some : 1 ≤ N) (few : N ≤ 64) where
   made_segments : segments (fresh N) ≡ N
@@ -100,13 +95,11 @@ module _ (N : ℕ) (some : 1 ≤ N) (few : N ≤ 64) where
       go x false e = refl
 
   made_pool : has_pool (fresh N) ≡ true
-  made_pool = go (either (has_pool (fresh N)))
-    where
-      go : (has_pool (fresh N) ≡ true) ⊎ (has_pool (fresh N) ≡ false) → has_pool (fresh N) ≡ true
-      go (inl some) = some
-      go (inr none) =
-          let first : 0 < segments (fresh N) = omega (arith, made_segments) in
-          never (in_pool (fresh N) 0) (ap (λ (i : ℕ). eqb i 0) (made_class 0 first)) ((empty_pool (fresh N)).0 none 0 first)
+  made_pool =
+      let first : 0 < segments (fresh N) = omega (arith, made_segments) in
+      let pooled = made_class 0 first in
+      let none = (empty_pool (fresh N)).0 in
+      grind (arith, nat_tests)
 
   pub made_grants : (n r : ℕ) → n ≤ 1023 → r ≤ n → allocate_refusal (fresh N) n r ≡ 0
   unfolding allocate_refusal

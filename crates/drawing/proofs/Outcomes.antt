@@ -1,9 +1,11 @@
 -- How a grant is shown: that no refusal applies, and what words it leaves. And what an outcome says. Assumes nothing.
 use Prim.Native.Nat.{ℕ}
-use mathlib.Core.Bool.{Bool, true, false, cond}
+use mathlib.Core.Bool.{Bool, cond}
 use mathlib.Core.List.{List}
 use mathlib.Core.Logic.{◌≢◌}
-use mathlib.Core.Path.{◌≡◌, refl, sym, ap, ◌∙◌}
+use mathlib.Core.Path.{◌≡◌, sym, ap, ◌∙◌}
+use native.Mathlib.Omega.{arith}
+use Rattle.std.proofs.lemmas.Bool.Decides.{nat_tests}
 use lib.Dec.{eqb}
 use borrow.Author.Tests.{ne_eqb}
 use Rattle.model.specs.Numbers.{Paper}
@@ -26,8 +28,4 @@ module _ {e : ℕ} {values after ws : List ℕ} {p : Paper} {ws' : List ℕ} (o 
 
 -- of a call that only reads
 pub words_read : {e : ℕ} {values ws : List ℕ} {p : Paper} {ws' : List ℕ} → Outcome e values ws ws p ws' → ws' ≡ ws
-words_read {e} {values} {ws} o = o.words ∙ go (eqb e 0)
-  where
-    go : (t : Bool) → cond t ws ws ≡ ws
-    go true = refl
-    go false = refl
+words_read o = grind (arith, nat_tests)

@@ -3,10 +3,9 @@
 use Prim.Native.Nat.{ℕ, zero, suc, ◌+◌, ◌-◌, ◌*◌, ◌^◌, ◌≤◌, ◌<◌}
 use native.Mathlib.Nat.{add-sub_of_le}
 use native.Mathlib.Omega.{arith}
-use mathlib.Core.Bool.{Bool, true, false, not, cond}
+use mathlib.Core.Bool.{Bool, not, cond}
 use mathlib.Core.List.{List}
 use mathlib.Core.Path.{◌≡◌, refl, sym, ap, ap₂, ◌∙◌}
-use lib.Dec.{eqb}
 use borrow.Author.Tests.{eq-eqb}
 use Rattle.model.specs.Below.{count_below, sum_below}
 use Rattle.model.specs.Word.{word, bit}
@@ -24,6 +23,7 @@ use Rattle.taken.proofs.RowLaws.{is_taken_at, row_bit_taken}
 use Rattle.std.specs.List.{range_with_len}
 use Rattle.std.proofs.lemmas.List.FromFn.{sum_by-map-range_with_len_more}
 use Rattle.std.proofs.Common.{sum, sum_by, map, get_or-drop, add-one}
+use Rattle.std.proofs.lemmas.Bool.Decides.{nat_tests}
 use Rattle.std.proofs.lemmas.List.Sums.{sum_by_more}
 use lib.ListN.{length, take, drop, length-drop}
 use Rattle.drawing.specs.Rooms.{room_in}
@@ -87,11 +87,10 @@ module _ (ws row : List ℕ) (s i : ℕ) (t : TakenRow ws row) (there : s < segm
 -- ---- the segments together
 
 room_most : (ws : List ℕ) (i s : ℕ) → 3 ≤ i → i ≤ 12 → room_in ws i s ≤ 2048
-room_most ws i s low high = go (eqb (class ws s) i)
-  where
-    go : (t : Bool) → cond t (count_below (blocks i) (λ k. not (taken_at ws s k))) 0 ≤ 2048
-    go true = omega (arith, count_below_le (blocks i) (λ k. not (taken_at ws s k)), blocks_most i (bounds_class i low high))
-    go false = omega arith
+room_most ws i s low high =
+    let few = count_below_le (blocks i) (λ k. not (taken_at ws s k)) in
+    let most = blocks_most i (bounds_class i low high) in
+    grind (arith, nat_tests)
 
 module _ (ws : List ℕ) (i : ℕ) (low : 3 ≤ i) (high : i ≤ 12) where
   all_rooms : (n : ℕ) → sum (map (room_in ws i) (range_with_len 0 n)) ≡ sum_below n (room_in ws i)

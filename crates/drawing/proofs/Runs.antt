@@ -1,25 +1,24 @@
 -- "From make on, as long as nothing but the store's calls writes to the arena, the taken blocks number the c of the last collection (0 after make)
 -- plus the allocations granted since." All along the arena is sound, and no call is refused with 2. Assumes nothing.
-use Prim.Native.Nat.{ℕ, ◌+◌, ◌-◌, ◌≤◌, ◌<◌}
+use Prim.Native.Nat.{ℕ, ◌+◌, ◌≤◌, ◌<◌}
 use native.Mathlib.Omega.{arith}
 use native.Mathlib.Decide.{ℕ_discrete}
 use mathlib.Core.Path.{◌≡◌, refl, sym, ap, ap₂, ◌∙◌, subst}
 use mathlib.Core.Logic.{◌≢◌}
-use mathlib.Core.Bool.{Bool, true, false, not, cond, ◌&&◌, ◌||◌, true≢false}
+use mathlib.Core.Bool.{Bool, true, false, cond, true≢false}
 use mathlib.Core.List.{List, [], ◌∷◌}
 use Rattle.std.specs.Prelude.{Ok}
 use lib.ListN.{length, get_or, take}
 use lib.Seq.{length-take-le}
-use lib.Dec.{eqb, leb, ltb}
-use borrow.Author.Tests.{leb-true, eq-eqb, ne_eqb}
-use Rattle.model.specs.Below.{all_below}
-use Rattle.model.specs.Class.{is_class, class_of}
-use Rattle.model.specs.Layout.{arena_length, handle}
-use Rattle.model.specs.View.{block, n_in, r_in}
-use Rattle.model.specs.Standing.{is_taken, none_or_taken, taken_count}
+use lib.Dec.{eqb}
+use borrow.Author.Tests.{eq-eqb, ne_eqb}
+use Rattle.std.proofs.lemmas.Bool.Decides.{nat_tests}
+use Rattle.model.specs.Class.{class_of}
+use Rattle.model.specs.Layout.{handle}
+use Rattle.model.specs.Standing.{is_taken, taken_count}
 use Rattle.model.specs.Sound.{sound}
-use Rattle.model.specs.Numbers.{Made, Allocated, Collected, Paper, paper, refuse, made_paper, allocated_paper, collected_paper}
-use Rattle.model.specs.Calls.{block_refusal, Make, make_refusal, Allocate, allocate_refusal, class_has_untaken, has_pool, given_segment, given_index, Collect, collect_refusal}
+use Rattle.model.specs.Numbers.{Made, Allocated, Collected, Paper, paper, made_paper, allocated_paper, collected_paper}
+use Rattle.model.specs.Calls.{Make, make_refusal, Allocate, allocate_refusal, given_segment, given_index, Collect, collect_refusal}
 use Rattle.model.specs.declared.Handle.{Handle}
 use Rattle.growth.proofs.After.{granted_facts}
 use Rattle.growth.proofs.Taken.{handle_taken, taken_count_after, still_taken, taken_not_given}
@@ -67,12 +66,7 @@ unchanged s same = record { still_sound = rw same s; counted = λ c k e. rw same
 
 made_right : (ws : List ℕ) (N : ℕ) → make_refusal ws N ≡ 0 → (1 ≤ N) × (N ≤ 64)
 unfolding make_refusal
-made_right ws N none = go (leb 1 N) refl (leb N 64) refl (eqb (length ws) (arena_length N)) none
-  where
-    go : (a : Bool) → leb 1 N ≡ a → (b : Bool) → leb N 64 ≡ b → (c : Bool) → refuse 1 (not (a && (b && c))) 0 ≡ 0 → (1 ≤ N) × (N ≤ 64)
-    go true p true q c none = (leb-true 1 N p, leb-true N 64 q)
-    go true p false q c none = absurd (omega arith)
-    go false p b q c none = absurd (omega arith)
+made_right ws N none = grind (arith, nat_tests)
 
 left_by_make : {ws : List ℕ} (N : ℕ) (a : Made) {ws' : List ℕ} → Make ws N a ws' → (made_paper a).number ≡ 0 → Left ws ws' begins
 left_by_make {ws} N a p none =
@@ -161,63 +155,20 @@ module _ {ws : List ℕ} (run : Run ws) where
 
 -- ---- no call of a run is refused with 2: a call never is on a sound arena
 
--- a refusal is not 2 if neither its own number nor what follows it is
-other_than : (e x : ℕ) (t : Bool) → e ≢ 2 → x ≢ 2 → refuse e t x ≢ 2
-other_than e x true apart rest = apart
-other_than e x false apart rest = rest
-
 module _ (ws : List ℕ) (s : sound ws ≡ true) where
-  judged : (x : ℕ) → refuse 2 (not (sound ws)) x ≡ x
-  judged x = rw s
-
-  not_two : (x e : ℕ) → e ≡ refuse 2 (not (sound ws)) x → x ≢ 2 → e ≢ 2
-  not_two x e same apart two = apart (sym (judged x) ∙ sym same ∙ two)
-
-  not_two_handle : (h x e : ℕ) → e ≡ block_refusal ws h x → x ≢ 2 → e ≢ 2
-  not_two_handle h x e same apart =
-      not_two (refuse 5 (not (is_taken ws h)) x) e same (other_than 5 x (not (is_taken ws h)) (λ z. omega arith) apart)
-
-  not_two_field : (h x e : ℕ) (t : Bool) → e ≡ block_refusal ws h (refuse 6 (not t) x) → x ≢ 2 → e ≢ 2
-  not_two_field h x e t same apart = not_two_handle h (refuse 6 (not t) x) e same (other_than 6 x (not t) (λ z. omega arith) apart)
-
-  zero : ◌≢◌ {A = ℕ} 0 2
-  zero z = omega (arith, z)
-
-  not_two_make : (N e : ℕ) → e ≡ make_refusal ws N → e ≢ 2
-  unfolding make_refusal
-  not_two_make N e same two =
-      other_than 1 0 (not (leb 1 N && (leb N 64 && eqb (length ws) (arena_length N)))) (λ z. omega arith) zero (sym same ∙ two)
-
-  not_two_allocate : (n r e : ℕ) → e ≡ allocate_refusal ws n r → e ≢ 2
-  unfolding allocate_refusal
-  not_two_allocate n r e same =
-      let shapeless : Bool = ltb 1023 n || ltb n r in
-      let full : Bool = not (class_has_untaken ws (class_of n) || has_pool ws) in
-      not_two (refuse 3 shapeless (refuse 4 full 0)) e same
-      (other_than 3 (refuse 4 full 0) shapeless (λ z. omega arith) (other_than 4 0 full (λ z. omega arith) zero))
-
-  not_two_collect : (roots list : List ℕ) (e : ℕ) → e ≡ collect_refusal ws roots list → e ≢ 2
-  unfolding collect_refusal
-  not_two_collect roots list e same =
-      let bad : Bool = not (all_below (length roots) (λ p. none_or_taken ws (get_or roots p 0))) in
-      let short : Bool = ltb (length list) (taken_count ws) in
-      not_two (refuse 8 bad (refuse 9 short 0)) e same
-      (other_than 8 (refuse 9 short 0) bad (λ z. omega arith) (other_than 9 0 short (λ z. omega arith) zero))
-
   pub sound_not_two : {ws' : List ℕ} (call : Call ws ws') → number call ≢ 2
-  sound_not_two (make N a p) = not_two_make N _ (number_is p)
-  sound_not_two (allocate n r tag a byte p) = not_two_allocate n r _ (number_is p)
-  sound_not_two (standing h a p) = not_two 0 _ (number_is p) zero
-  sound_not_two (shape h a p) = not_two_handle h 0 _ (number_is p) zero
-  sound_not_two (read_reference h f a p) = not_two_field h 0 _ (ltb f (r_in (block ws h))) (number_is p) zero
-  sound_not_two (write_reference h f v a p) =
-      not_two_field h (refuse 7 (not (none_or_taken ws v)) 0) _ (ltb f (r_in (block ws h))) (number_is p)
-      (other_than 7 0 (not (none_or_taken ws v)) (λ z. omega arith) zero)
-  sound_not_two (read_plain h f a p) = not_two_field h 0 _ (ltb f (n_in (block ws h) - r_in (block ws h))) (number_is p) zero
-  sound_not_two (write_plain h f v a p) = not_two_field h 0 _ (ltb f (n_in (block ws h) - r_in (block ws h))) (number_is p) zero
-  sound_not_two (plain_words h a p) = not_two_handle h 0 _ refl zero
-  sound_not_two (room i a p) = not_two (refuse 3 (not (is_class i)) 0) _ (number_is p) (other_than 3 0 (not (is_class i)) (λ z. omega arith) zero)
-  sound_not_two (collect roots list a list' p) = not_two_collect roots list _ (collect_number a p)
+  unfolding make_refusal allocate_refusal collect_refusal
+  sound_not_two (make N a p) two = let e = number_is p in grind (arith, nat_tests)
+  sound_not_two (allocate n r tag a byte p) two = let e = number_is p in grind (arith, nat_tests)
+  sound_not_two (standing h a p) two = let e = number_is p in grind (arith, nat_tests)
+  sound_not_two (shape h a p) two = let e = number_is p in grind (arith, nat_tests)
+  sound_not_two (read_reference h f a p) two = let e = number_is p in grind (arith, nat_tests)
+  sound_not_two (write_reference h f v a p) two = let e = number_is p in grind (arith, nat_tests)
+  sound_not_two (read_plain h f a p) two = let e = number_is p in grind (arith, nat_tests)
+  sound_not_two (write_plain h f v a p) two = let e = number_is p in grind (arith, nat_tests)
+  sound_not_two (plain_words h a p) two = grind (arith, nat_tests)
+  sound_not_two (room i a p) two = let e = number_is p in grind (arith, nat_tests)
+  sound_not_two (collect roots list a list' p) two = let e = collect_number a p in grind (arith, nat_tests)
 
 -- what comes before any call of a run is itself a run
 pub run_not_two : {ws ws' : List ℕ} → Run ws → (call : Call ws ws') → number call ≢ 2

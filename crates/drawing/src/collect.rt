@@ -26,7 +26,7 @@ fn collect_sound(
 
 // How many blocks are taken, unless a collection with a work list of so many words is refused.
 #[tactic(auto, unfolding(model::specs::Calls::collect_refusal))]
-fn refusal(arena: &[u32], roots: &[u32], room: usize) -> Result<usize, Refusal>
+fn taken_if_granted(arena: &[u32], roots: &[u32], room: usize) -> Result<usize, Refusal>
     ensures { CollectRefusal arena.now roots.now room result }
 {
     let mut row = [0u32; 8192];
@@ -46,7 +46,7 @@ fn refusal(arena: &[u32], roots: &[u32], room: usize) -> Result<usize, Refusal>
 pub fn collect(arena: &mut [u32], roots: &[u32], list: &mut [u32]) -> Result<u32, Refusal>
     ensures { Collect arena.old roots.now list.old result arena.new list.new }
 {
-    let taken = refusal(arena, roots, list.len())?;
+    let taken = taken_if_granted(arena, roots, list.len())?;
     let mut marks = [0u32; 4097];
     Ok(collect_sound(arena, roots, list, &mut marks, taken))
 }

@@ -26,5 +26,5 @@ pub fn plain_words(arena: &[u32], h: Handle) -> &[u32]
     let mut row = [0u32; 8192];
     judged(arena, &mut row)
         .and_then(|j| j.block(h))
-        .map_or(&arena[0..0], |b| b.plain_words())
+        .map_or(&arena[..0], |b| b.plain_words())
 }

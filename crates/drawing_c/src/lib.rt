@@ -16,28 +16,34 @@ use drawing::allocate::allocate;
 use drawing::ask::shape;
 use drawing::collect::collect;
 use drawing::make::make;
-use drawing::place::plain_place;
+use drawing::place::{Place, plain_place};
 use drawing::plain::{read_plain, write_plain};
 use drawing::reference::{read_reference, write_reference};
-use model::Handle;
-use words::slices::wide;
+use model::{Handle, Shape, Standing, WordOffset};
+use numbers::number;
 
-mod paper;
+// What goes out where there is no shape or no place.
+const NO_SHAPE: Shape = Shape { n: 0, r: 0, tag: 0 };
+
+const NO_PLACE: Place = Place {
+    at: WordOffset(0),
+    count: 0,
+};
 
 #[unsafe(no_mangle)]
 pub extern "C" fn ds_make(arena: &mut [u32], segments: u32) -> u32
     ensures { Told made_paper (λ a. Make arena.old segments a arena.new) result [] }
 {
-    paper::made(make(arena, segments))
+    number(&make(arena, segments))
 }
 
 #[unsafe(no_mangle)]
 pub extern "C" fn ds_allocate(arena: &mut [u32], n: u32, r: u32, tag: u8, handle: &mut u32) -> u32
     ensures { Told allocated_paper (λ a. Allocate arena.old n r tag a arena.new) result (handle.new ∷ []) }
 {
-    let p = paper::allocated(allocate(arena, n, r, tag));
-    *handle = p.value;
-    p.number
+    let answer = allocate(arena, n, r, tag);
+    *handle = answer.map_or(0, |h| h.0);
+    number(&answer)
 }
 
 #[unsafe(no_mangle)]
@@ -51,12 +57,18 @@ pub extern "C" fn ds_standing(
 ) -> u32
     ensures { Told stood_paper (λ a. AskStanding arena.now handle a arena.now) result (standing.new ∷ n.new ∷ r.new ∷ tag.new ∷ []) }
 {
-    let p = paper::stood(drawing::ask::standing(arena, Handle(handle)));
-    *standing = p.standing;
-    *n = p.n;
-    *r = p.r;
-    *tag = p.tag;
-    p.number
+    let answer = drawing::ask::standing(arena, Handle(handle));
+    let (kind, shape) = match answer {
+        Ok(Standing::None) | Err(_) => (0, NO_SHAPE),
+        Ok(Standing::Outside) => (1, NO_SHAPE),
+        Ok(Standing::Free) => (2, NO_SHAPE),
+        Ok(Standing::Taken(shape)) => (3, shape),
+    };
+    *standing = kind;
+    *n = shape.n;
+    *r = shape.r;
+    *tag = u32::from(shape.tag);
+    number(&answer)
 }
 
 #[unsafe(no_mangle)]
@@ -69,43 +81,44 @@ pub extern "C" fn ds_shape(
 ) -> u32
     ensures { Told shaped_paper (λ a. AskShape arena.now handle a arena.now) result (n.new ∷ r.new ∷ tag.new ∷ []) }
 {
-    let p = paper::shaped(shape(arena, Handle(handle)));
-    *n = p.n;
-    *r = p.r;
-    *tag = p.tag;
-    p.number
+    let answer = shape(arena, Handle(handle));
+    let shape = answer.unwrap_or(NO_SHAPE);
+    *n = shape.n;
+    *r = shape.r;
+    *tag = u32::from(shape.tag);
+    number(&answer)
 }
 
 #[unsafe(no_mangle)]
 pub extern "C" fn ds_read_reference(arena: &[u32], handle: u32, field: u32, value: &mut u32) -> u32
     ensures { Told read_paper (λ a. ReadReference arena.now handle field a arena.now) result (value.new ∷ []) }
 {
-    let p = paper::read(read_reference(arena, Handle(handle), field));
-    *value = p.value;
-    p.number
+    let answer = read_reference(arena, Handle(handle), field);
+    *value = answer.unwrap_or(0);
+    number(&answer)
 }
 
 #[unsafe(no_mangle)]
 pub extern "C" fn ds_write_reference(arena: &mut [u32], handle: u32, field: u32, value: u32) -> u32
     ensures { Told written_paper (λ a. WriteReference arena.old handle field value a arena.new) result [] }
 {
-    paper::written(write_reference(arena, Handle(handle), field, value))
+    number(&write_reference(arena, Handle(handle), field, value))
 }
 
 #[unsafe(no_mangle)]
 pub extern "C" fn ds_read_plain(arena: &[u32], handle: u32, field: u32, value: &mut u32) -> u32
     ensures { Told read_paper (λ a. ReadPlain arena.now handle field a arena.now) result (value.new ∷ []) }
 {
-    let p = paper::read(read_plain(arena, Handle(handle), field));
-    *value = p.value;
-    p.number
+    let answer = read_plain(arena, Handle(handle), field);
+    *value = answer.unwrap_or(0);
+    number(&answer)
 }
 
 #[unsafe(no_mangle)]
 pub extern "C" fn ds_write_plain(arena: &mut [u32], handle: u32, field: u32, value: u32) -> u32
     ensures { Told written_paper (λ a. WritePlain arena.old handle field value a arena.new) result [] }
 {
-    paper::written(write_plain(arena, Handle(handle), field, value))
+    number(&write_plain(arena, Handle(handle), field, value))
 }
 
 // A part cannot be handed to C: its place in the arena is, in words.
@@ -118,20 +131,20 @@ pub extern "C" fn ds_plain_words(
 ) -> u32
     ensures { PlainPlace arena.now handle result offset.new count.new }
 {
-    let p = plain_place(arena, Handle(handle));
-    let at = p.at;
-    *offset = at.0;
-    *count = wide(p.count);
-    p.number
+    let answer = plain_place(arena, Handle(handle));
+    let place = answer.unwrap_or(NO_PLACE);
+    *offset = place.at.0;
+    *count = place.count as usize;
+    number(&answer)
 }
 
 #[unsafe(no_mangle)]
 pub extern "C" fn ds_room(arena: &[u32], cls: u32, room: &mut u32) -> u32
     ensures { Told room_paper (λ a. AskRoom arena.now cls a arena.now) result (room.new ∷ []) }
 {
-    let p = paper::room(drawing::ask::room(arena, cls));
-    *room = p.value;
-    p.number
+    let answer = drawing::ask::room(arena, cls);
+    *room = answer.unwrap_or(0);
+    number(&answer)
 }
 
 #[unsafe(no_mangle)]
@@ -143,7 +156,7 @@ pub extern "C" fn ds_collect(
 ) -> u32
     ensures { Told collected_paper (λ a. Collect arena.old roots.now work.old a arena.new work.new) result (count.new ∷ []) }
 {
-    let p = paper::collected(collect(arena, roots, work));
-    *count = p.value;
-    p.number
+    let answer = collect(arena, roots, work);
+    *count = answer.unwrap_or(0);
+    number(&answer)
 }
