@@ -2,3 +2,4 @@ pub mod Examples
 pub mod NumberLaws
 pub mod OrderLaws
 pub mod Outcomes
+pub mod RowLaws

@@ -11,12 +11,12 @@ use native.Mathlib.Omega.{arith}
 use lib.Dec.{ltb}
 use lib.ListN.{length, get_or, take, length-append}
 use lib.Seq.{take-suc}
-use borrow.Author.Tests.{lt-ltb, le-ltb}
+use borrow.Author.Tests.{lt-ltb, le-ltb, ne_eqb}
 use Rattle.typed.specs.Digits.{hex_digit_ascii, last_digits, IsDigitCount}
 use Rattle.std.specs.Fmt.{decimal as text_of}
 use Rattle.std.proofs.lemmas.Fmt.{decimal_by_steps}
 use Rattle.model.specs.Below.{first_from}
-use Rattle.typed.specs.Answers.{places, decimal, spelled, newline, colon, refused_word, live_word, numbered, live_words}
+use Rattle.typed.specs.Answers.{places, decimal, spelled, newline, colon, refused_word, live_word, numbered, said, live_words}
 
 -- ---- a number in decimal
 
@@ -131,3 +131,11 @@ refused_is v e same small = numbered_is refused_word v newline small ∙ ap (λ 
 
 pub live_is : (c : ℕ) (list : List ℕ) → c < 4294967296 → live_word ++ (text_of c ++ (colon ++ (spelled (take c list) ++ newline))) ≡ live_words c list
 live_is c list small = rw (printed_is c small) (rw (append_assoc live_word (decimal c ++ colon), append_assoc (decimal c) colon))
+
+-- ---- a grant and a refusal. Nothing rests on these two; docs/PORT.md names them.
+
+pub said_granted : (number : ℕ) (words : List ℕ) → number ≡ 0 → said number words ≡ words
+said_granted number words e = rw e
+
+pub said_refused : (number : ℕ) (words : List ℕ) (e : ℕ) → e ≡ number → (e ≡ 0 → ⊥) → said number words ≡ numbered refused_word e newline
+said_refused number words e same some = rw (← same, ne_eqb e 0 some)

@@ -1,3 +1,4 @@
 pub mod AnswerLaws
 pub mod Examples
 pub mod HeldLaws
+pub mod OrderLaws

@@ -10,4 +10,3 @@ pub mod bits;
 pub mod class;
 pub mod fields;
 pub mod handles;
-pub mod slices;
