@@ -1,15 +1,11 @@
 -- `ranking::records::marked_record` meets its contract. Assumes nothing.
 use Prim.Native.Nat.{ℕ}
-use mathlib.Core.Path.{◌≡◌, ap, ap₂, ◌∙◌}
-use mathlib.Core.Logic.{⊎_elim}
-use mathlib.Core.Bool.{true}
+use mathlib.Core.Path.{ap, ap₂, ◌∙◌}
 use mathlib.Core.List.{◌∷◌}
 use native.Mathlib.Omega.{arith}
-use lib.ListN.{replicate, length-set}
+use lib.ListN.{replicate}
 use lib.Seq.{get_or-set_same}
 use borrow.Author.Tests.{eq-eqb, ne_eqb}
-use Rattle.model.specs.Word.{field}
-use Rattle.model.specs.Class.{is_class}
 use Rattle.model.specs.Layout.{level_rows}
 use Rattle.ranking.specs.Live.{mark_in}
 use Rattle.ranking.specs.Records.{marked_record}
@@ -19,12 +15,6 @@ pub returns-then-head-eq0 : goal.returns-then-head-eq0
 unfolding marked_record
 returns-then-head-eq0 c =
     c.fill.ensures.after (λ y e. e) ∙ ap (λ (n : ℕ). replicate n 0) c.requires.long ∙ simp (eq-eqb _ _ c.if-head-eq0.true)
-
-pub write_levels-requires : goal.write_levels-requires
-write_levels-requires c =
-    let head = c.args.head in
-    let class : is_class (field 0 4 head) ≡ true = ⊎_elim (λ e. absurd (c.if-head-eq0.false e)) (λ t. t) c.requires.right in
-    record { long = length-set c.args.rec.now 0 head ∙ c.requires.long; class = ap is_class c.record_class.ensures ∙ class; row = c.requires.row }
 
 pub returns-else-head-eq0 : goal.returns-else-head-eq0
 unfolding marked_record

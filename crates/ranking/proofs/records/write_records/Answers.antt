@@ -8,7 +8,7 @@ use Rattle.model.specs.Word.{word, put}
 use Rattle.model.specs.Layout.{record_at}
 use Rattle.model.specs.View.{segments}
 use Rattle.ranking.specs.Live.{marks_of}
-use Rattle.ranking.specs.Records.{with_records, marked_record}
+use Rattle.ranking.specs.Records.{marked_record}
 use Rattle.ranking.proofs.RecordLaws.{marked_length, with_none, with_next, with_segments}
 use Rattle.ranking.proofs.records.write_records.Goals as goal
 use Rattle.ranking.proofs.records.write_records.Goals.{In-loop-s}
@@ -53,10 +53,3 @@ loop-s-preserved c =
     let inside : record_at x.s ≤ length a.arena.now = omega (arith, c.segments-s-end.ensures, c.requires.long) in
     c.write_record.ensures ∙ ap (λ (ws : List ℕ). put ws (record_at x.s) (made x.s)) x.invariant
     ∙ with_next a.arena.now x.s made (λ k _. new-length a.heads.now a.marks.now k) inside (new-length a.heads.now a.marks.now x.s)
-
-pub returns : goal.returns
-returns c =
-    let a = c.args in
-    let x = c.loop-s in
-    let all : x.s ≡ c.segments-s-end.result = omega arith in
-    x.invariant ∙ ap (λ (n : ℕ). with_records a.arena.now n (new a.heads.now a.marks.now)) (all ∙ c.segments-s-end.ensures)
