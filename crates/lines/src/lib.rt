@@ -46,8 +46,8 @@ fn number(field: &[u8]) -> Option<u32>
         return None;
     }
     let mut v: u32 = 0;
-    for byte in field {
-        v = more(v, digit(*byte)?)?;
+    for &byte in field {
+        v = more(v, digit(byte)?)?;
     }
     Some(v)
 }
@@ -58,7 +58,7 @@ fn numbers(text: &[u8]) -> Option<Roots>
         (λ ns. (all_numbers (fields text.now) ≡ true) × (ns.items ≡ map value (fields text.now))) }
 {
     let mut all = Roots::new();
-    for field in text.split(|b| *b == b' ') {
+    for field in text.split(|&b| b == b' ') {
         all.try_push(number(field)?).ok()?;
     }
     Some(all)
@@ -69,8 +69,8 @@ fn order_of(letter: u8, numbers: Roots) -> Option<Order>
     ensures { order_meaning result ≡ said letter numbers.items }
 {
     match (letter, numbers.as_slice()) {
-        (b'N', [n, r, tag]) => Some(Order::Allocate(*n, *r, u8::try_from(*tag).ok()?)),
-        (b'L', [h, f, v]) => Some(Order::Link(*h, *f, *v)),
+        (b'N', &[n, r, tag]) => Some(Order::Allocate(n, r, u8::try_from(tag).ok()?)),
+        (b'L', &[h, f, v]) => Some(Order::Link(h, f, v)),
         (b'K', _) => Some(Order::Collect(numbers)),
         _ => None,
     }

@@ -97,8 +97,8 @@ impl<W: Write> Session<'_, W> {
     fn take_bytes(&mut self, bytes: &[u8]) -> io::Result<()>
         ensures { TookBytes 81 self.old.line.items self.old.arena.now self.old.list.now bytes.now result self.new.line.items self.new.arena.now self.new.list.now }
     {
-        for byte in bytes {
-            self.take_byte(*byte)?;
+        for &byte in bytes {
+            self.take_byte(byte)?;
         }
         Ok(())
     }
