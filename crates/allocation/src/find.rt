@@ -11,7 +11,7 @@ use words::class::blocks;
 use words::fields::{place_index, place_rank};
 
 // A block by its segment, the rank of that in its class, and its index there.
-#[derive(Clone, Copy)]
+#[derive(Clone, Copy, Debug, PartialEq, Eq)]
 pub struct Spot {
     pub segment: u32,
     pub rank: u32,
@@ -19,7 +19,7 @@ pub struct Spot {
 }
 
 // A block of one of the class's own segments, or block 0 of a pool segment that joins the class.
-#[derive(Clone, Copy)]
+#[derive(Clone, Copy, Debug, PartialEq, Eq)]
 pub enum Found {
     Here(Spot),
     Joins(Spot),

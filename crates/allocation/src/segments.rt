@@ -1,4 +1,4 @@
-// The segment of a rank among those of its class.
+// Segments by their rank.
 ghost use Rattle.std.specs.Prelude.{◌≡◌};
 ghost use Rattle.model.specs.View.{segments, ranked};
 ghost use Rattle.allocation.specs.Spots.{Whole, below};

@@ -1,7 +1,8 @@
 // Reading an arena: its segments, places, records and blocks.
 //
 // A record and a block are handed on as their own words, cut from the middle of the arena. What a function
-// asks is that the arena has the length that its number of segments wants, and that there is such a segment.
+// asks is that the arena has the length that its number of segments wants, and that there is such a segment. It asks so of a
+// slice, and no type holds that: docs/STATEMENTS.md names these functions with what they take.
 #![tactic(auto)]
 
 ghost use Rattle.std.specs.Prelude.{◌≡◌, true, ◌<◌, ◌≤◌, length};

@@ -12,7 +12,7 @@ use crate::levels::{level_end, levels, word_at};
 use words::bits::first_free as first_free_bit;
 use words::class::blocks;
 
-// A level that a record's class uses, where the record's levels are right.
+// A level that a record's class uses, where the record's levels are right. Nothing compares or prints one.
 #[derive(Clone, Copy)]
 struct Level<'a> {
     rec: &'a [u32],

@@ -15,7 +15,7 @@ pub enum Field {
     Plain(u32),
 }
 
-// Where the block begins in its arena, and its words, from there to its end.
+// Where the block begins in its arena, and its words, from there to its end. Nothing compares or prints one.
 #[derive(Clone, Copy)]
 pub struct Block<'a> {
     pub at: WordOffset,

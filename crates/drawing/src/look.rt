@@ -16,7 +16,7 @@ use taken::ask::{all_none_or_taken, is_taken, none_or_taken, taken_count};
 use words::class::{block_words, blocks};
 use words::handles::{index, offset, segment};
 
-// A sound arena with its taken row.
+// A sound arena with its taken row. Nothing compares or prints one.
 #[derive(Clone, Copy)]
 pub struct Sound<'a, 'r> {
     pub arena: &'a [u32],

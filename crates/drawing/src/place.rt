@@ -6,7 +6,7 @@ use crate::look::judged;
 use model::{Handle, Refusal, Shape, WordOffset};
 
 // The offset of the first plain word and how many there are.
-#[derive(Clone, Copy, Debug, PartialEq, Eq)]
+#[derive(Clone, Copy, Debug, Default, PartialEq, Eq)]
 pub struct Place {
     pub at: WordOffset,
     pub count: u32,

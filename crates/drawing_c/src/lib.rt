@@ -16,19 +16,11 @@ use drawing::allocate::allocate;
 use drawing::ask::shape;
 use drawing::collect::collect;
 use drawing::make::make;
-use drawing::place::{Place, plain_place};
+use drawing::place::plain_place;
 use drawing::plain::{read_plain, write_plain};
 use drawing::reference::{read_reference, write_reference};
-use model::{Handle, Shape, Standing, WordOffset};
+use model::{Handle, Shape, Standing};
 use numbers::number;
-
-// What goes out where there is no shape or no place.
-const NO_SHAPE: Shape = Shape { n: 0, r: 0, tag: 0 };
-
-const NO_PLACE: Place = Place {
-    at: WordOffset(0),
-    count: 0,
-};
 
 #[unsafe(no_mangle)]
 pub extern "C" fn ds_make(arena: &mut [u32], segments: u32) -> u32
@@ -59,9 +51,9 @@ pub extern "C" fn ds_standing(
 {
     let answer = drawing::ask::standing(arena, Handle(handle));
     let (kind, shape) = match answer {
-        Ok(Standing::None) | Err(_) => (0, NO_SHAPE),
-        Ok(Standing::Outside) => (1, NO_SHAPE),
-        Ok(Standing::Free) => (2, NO_SHAPE),
+        Ok(Standing::None) | Err(_) => (0, Shape::default()),
+        Ok(Standing::Outside) => (1, Shape::default()),
+        Ok(Standing::Free) => (2, Shape::default()),
         Ok(Standing::Taken(shape)) => (3, shape),
     };
     *standing = kind;
@@ -82,7 +74,7 @@ pub extern "C" fn ds_shape(
     ensures { Told shaped_paper (λ a. AskShape arena.now handle a arena.now) result (n.new ∷ r.new ∷ tag.new ∷ []) }
 {
     let answer = shape(arena, Handle(handle));
-    let shape = answer.unwrap_or(NO_SHAPE);
+    let shape = answer.unwrap_or_default();
     *n = shape.n;
     *r = shape.r;
     *tag = u32::from(shape.tag);
@@ -94,7 +86,7 @@ pub extern "C" fn ds_read_reference(arena: &[u32], handle: u32, field: u32, valu
     ensures { Told read_paper (λ a. ReadReference arena.now handle field a arena.now) result (value.new ∷ []) }
 {
     let answer = read_reference(arena, Handle(handle), field);
-    *value = answer.unwrap_or(0);
+    *value = answer.unwrap_or_default();
     number(&answer)
 }
 
@@ -110,7 +102,7 @@ pub extern "C" fn ds_read_plain(arena: &[u32], handle: u32, field: u32, value: &
     ensures { Told read_paper (λ a. ReadPlain arena.now handle field a arena.now) result (value.new ∷ []) }
 {
     let answer = read_plain(arena, Handle(handle), field);
-    *value = answer.unwrap_or(0);
+    *value = answer.unwrap_or_default();
     number(&answer)
 }
 
@@ -132,7 +124,7 @@ pub extern "C" fn ds_plain_words(
     ensures { PlainPlace arena.now handle result offset.new count.new }
 {
     let answer = plain_place(arena, Handle(handle));
-    let place = answer.unwrap_or(NO_PLACE);
+    let place = answer.unwrap_or_default();
     *offset = place.at.0;
     *count = place.count as usize;
     number(&answer)
@@ -143,7 +135,7 @@ pub extern "C" fn ds_room(arena: &[u32], cls: u32, room: &mut u32) -> u32
     ensures { Told room_paper (λ a. AskRoom arena.now cls a arena.now) result (room.new ∷ []) }
 {
     let answer = drawing::ask::room(arena, cls);
-    *room = answer.unwrap_or(0);
+    *room = answer.unwrap_or_default();
     number(&answer)
 }
 
@@ -157,6 +149,6 @@ pub extern "C" fn ds_collect(
     ensures { Told collected_paper (λ a. Collect arena.old roots.now work.old a arena.new work.new) result (count.new ∷ []) }
 {
     let answer = collect(arena, roots, work);
-    *count = answer.unwrap_or(0);
+    *count = answer.unwrap_or_default();
     number(&answer)
 }

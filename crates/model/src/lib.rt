@@ -2,13 +2,12 @@
 // specs/ the meaning of the document, one file for each of its headings.
 //
 // A handle, a block index and a word offset are never taken for each other: each is a type of its own.
-
-// A block as the caller knows it: segment x 2,048 + block index + 1. Handle 0 means none.
 #![tactic(auto)]
 
 ghost use Rattle.std.specs.Prelude.{◌≡◌};
 ghost use Rattle.model.specs.Numbers.{refusal_number};
 
+// A block as the caller knows it: segment x 2,048 + block index + 1. Handle 0 means none.
 #[derive(Clone, Copy, Debug, PartialEq, Eq)]
 pub struct Handle(pub u32);
 
@@ -17,12 +16,12 @@ pub struct Handle(pub u32);
 pub struct BlockIndex(pub u32);
 
 // The place of a word in the arena, from 0.
-#[derive(Clone, Copy, Debug, PartialEq, Eq)]
+#[derive(Clone, Copy, Debug, Default, PartialEq, Eq)]
 pub struct WordOffset(pub usize);
 
 // What a block's header says: the number of words after it, how many of those are references, and a
 // tag of the owner's choosing.
-#[derive(Clone, Copy, Debug, PartialEq, Eq)]
+#[derive(Clone, Copy, Debug, Default, PartialEq, Eq)]
 pub struct Shape {
     pub n: u32,
     pub r: u32,

@@ -17,6 +17,7 @@ use crate::places::write_places;
 use crate::records::write_records;
 use arena::segments;
 
+// Counts and keys are two rows by segment, and no row of pairs: a rank is counted over the keys alone, several at a time.
 pub mod groups;
 pub mod heads;
 pub mod keys;

@@ -64,7 +64,7 @@ fn full_words(ws: &[u32]) -> u32
     w
 }
 
-// A level above level 0: it has so many words, and as many bits as the level below has words.
+// A level above level 0: it has so many words, and as many bits as the level below has words. Nothing compares or prints one.
 #[derive(Clone, Copy)]
 struct Level<'a> {
     rec: &'a [u32],

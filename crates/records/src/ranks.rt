@@ -30,7 +30,8 @@ pub fn members(arena: &[u32], class: u32) -> u32
         .sum()
 }
 
-// How many of them have that rank.
+// How many of them have that rank. Two chains of two lines, and no function over a test: it would be no shorter, and its
+// callers' closures would each have to say what they ask.
 fn holders(arena: &[u32], class: u32, rank: u32) -> u32
     requires { Sized arena.now }
     ensures { result ≡ holders arena.now class rank }

@@ -18,7 +18,8 @@ use words::class::{blocks, class_of};
 use words::fields::{header_n, header_r};
 use words::handles::offset;
 
-// A segment of an arena, with the arena's taken row: its number, its class, and the number of segments.
+// A segment of an arena, with the arena's taken row: its number, its class, and the number of segments. Nothing compares or
+// prints one.
 #[derive(Clone, Copy)]
 pub struct Member<'a> {
     pub arena: &'a [u32],

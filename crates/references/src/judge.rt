@@ -84,6 +84,7 @@ pub fn taken_right(arena: &[u32], row: &[u32; 8192]) -> bool
 {
     let mut words = [0; 4096];
     let n = segments(arena);
+    // No chain: each segment writes into the words, and std says of `all` what it answers where its closure changes nothing.
     for s in 0..n {
         if !segment_right(arena, row, n, s, &mut words) {
             return false;

@@ -31,7 +31,7 @@ pub fn is_taken(row: &[u32; 8192], h: u32) -> bool
 
 // What the words that have been asked have in common: the lowest bit of `all` is set if all their bits are, and
 // `over` has every bit that one of them has. Words too great for any handle show in it.
-#[derive(Clone, Copy)]
+#[derive(Clone, Copy, Debug, PartialEq, Eq)]
 pub struct Seen {
     pub all: u32,
     pub over: u32,

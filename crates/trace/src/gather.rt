@@ -59,7 +59,7 @@ fn gather_block(arena: &[u32], n: u32, h: u32, row: &mut [u32], end: usize) -> u
 }
 
 // How many blocks were taken off a queue, and where their references end in the row.
-#[derive(Clone, Copy)]
+#[derive(Clone, Copy, Debug, PartialEq, Eq)]
 pub struct Run {
     pub blocks: usize,
     pub end: usize,

@@ -23,7 +23,7 @@ pub mod list;
 pub mod marks;
 
 // Where the queue begins and ends in the list.
-#[derive(Clone, Copy)]
+#[derive(Clone, Copy, Debug, PartialEq, Eq)]
 pub struct Queue {
     pub head: usize,
     pub tail: usize,

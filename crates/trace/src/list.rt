@@ -6,7 +6,7 @@ ghost use Rattle.trace.specs.List.{On, Root, PutRoot, Roots, Handles, Kept};
 use crate::marks::{clear, mark};
 
 // Puts a root on the list, of which the first c words are in use, unless it is 0 or there already. Gives the
-// new c.
+// new c. The list is C's, and row and list are named in docs/STATEMENTS.md as slices: so each has its length in use beside it.
 fn put_root(h: u32, list: &mut [u32], c: usize, marks: &mut [u32]) -> usize
     requires { Root h list.old c marks.old }
     ensures { PutRoot h list.old c marks.old result list.new marks.new }
