@@ -52,10 +52,8 @@ fn join(arena: &mut [u32], segment: u32, class: u32, rank: u32)
     fresh(&mut arena[at..at + 68], class, rank);
 }
 
-// Class, spot and shape go one by one: each comes from another function, and a type for the three would have no method but
-// these.
-//
-// The block's words and the place's. No bit is set: a block before the place is taken without one.
+// The block's words and the place's. No bit is set: a block before the place is taken without one. Class, spot and shape go
+// one by one: each comes from another function, and a type for the three would have no method but these.
 fn take(arena: &mut [u32], segments: u32, class: u32, spot: Spot, shape: Shape)
     requires { Take arena.old segments class spot shape }
     ensures { arena.new ≡ taken_words arena.old segments class spot shape }

@@ -49,6 +49,7 @@ pub fn head_of(arena: &[u32], segment: u32) -> u32
     arena[11 + 68 * segment as usize]
 }
 
+// 0 in the pool, as document 01 stores it.
 pub fn class(arena: &[u32], segment: u32) -> u32
     requires { Segment arena.now segment }
     ensures { result ≡ class arena.now segment }

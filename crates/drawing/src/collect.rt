@@ -1,6 +1,8 @@
 // Collecting.
-ghost use Rattle.model.specs.Calls.{Granted, Collect};
-ghost use Rattle.trace.specs.Trace.{Traceable};
+ghost use Rattle.std.specs.Prelude.{◌≡◌};
+ghost use Rattle.model.specs.Standing.{taken_count};
+ghost use Rattle.model.specs.Numbers.{granted};
+ghost use Rattle.model.specs.Calls.{Granted, Collect, collect_refusal};
 ghost use Rattle.drawing.specs.Refusal.{CollectRefusal};
 
 use crate::look::judged;
@@ -9,18 +11,14 @@ use ranking::rank_anew;
 use trace::trace;
 
 // What is left once no refusal applies: the list, then the records and places that follow from it.
-fn collect_sound(
-    arena: &mut [u32],
-    roots: &[u32],
-    list: &mut [u32],
-    marks: &mut [u32],
-    taken: usize,
-) -> u32
-    requires { Traceable arena.old roots.now list.old marks.old taken }
+fn collect_sound(arena: &mut [u32], roots: &[u32], list: &mut [u32], taken: usize) -> u32
+    requires unrefused { collect_refusal arena.old roots.now list.old ≡ granted }
+    requires all { taken ≡ taken_count arena.old }
     ensures { Granted arena.old roots.now list.old result arena.new list.new }
 {
-    let c = trace(arena, roots, list, marks, taken);
-    rank_anew(arena, marks);
+    let mut marks = [0u32; 4097];
+    let c = trace(arena, roots, list, &mut marks, taken);
+    rank_anew(arena, &marks);
     c
 }
 
@@ -47,6 +45,5 @@ pub fn collect(arena: &mut [u32], roots: &[u32], list: &mut [u32]) -> Result<u32
     ensures { Collect arena.old roots.now list.old result arena.new list.new }
 {
     let taken = taken_if_granted(arena, roots, list.len())?;
-    let mut marks = [0u32; 4097];
-    Ok(collect_sound(arena, roots, list, &mut marks, taken))
+    Ok(collect_sound(arena, roots, list, taken))
 }

@@ -2,7 +2,7 @@
 //
 // For any words whatever the answer is true exactly if they are a sound arena. The judge of records and places
 // comes first. Where that is content the taken row says which blocks are taken, and the judge of headers and
-// references goes by it. A caller lends the row with all its words 0; to whom the arena is sound, keeps it and asks it
+// references goes by it. A caller lends the row with all its words 0; whoever finds the arena sound keeps it and asks it
 // from then on.
 #![tactic(auto)]
 

@@ -1,4 +1,4 @@
-// What a reader of document 01 must believe, and nothing else: here the types of the answers, and in
+// What a reader of document 01 must believe, and nothing else: here handles, shapes, standings and refusals, and in
 // specs/ the meaning of the document, one file for each of its headings.
 //
 // A handle, a block index and a word offset are never taken for each other: each is a type of its own.

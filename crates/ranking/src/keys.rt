@@ -26,6 +26,7 @@ pub fn key_class(key: u32) -> u32
     key / 1024
 }
 
+// A number and no `Group`: a key may be any, and 3 is no group's.
 pub fn key_group(key: u32) -> u32
     ensures { result ≡ key / 256 % 4 }
 {

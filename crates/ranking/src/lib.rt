@@ -7,6 +7,8 @@
 // and from classes, groups and former ranks the heads of the new records and the new places. Then everything is written:
 // each record with its head and the levels of its marks, and the places. Word 0 and the blocks stay. Shown
 // here: the arena afterwards, word by word, is that of document 01 as crate model states it.
+//
+// Counts and keys are two rows by segment, and no row of pairs: a rank is counted over the keys alone, several at a time.
 #![tactic(auto)]
 
 ghost use Rattle.ranking.specs.Anew.{Reached, Anew};
@@ -17,7 +19,6 @@ use crate::places::write_places;
 use crate::records::write_records;
 use arena::segments;
 
-// Counts and keys are two rows by segment, and no row of pairs: a rank is counted over the keys alone, several at a time.
 pub mod groups;
 pub mod heads;
 pub mod keys;

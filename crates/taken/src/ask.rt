@@ -30,7 +30,8 @@ pub fn is_taken(row: &[u32; 8192], h: u32) -> bool
 }
 
 // What the words that have been asked have in common: the lowest bit of `all` is set if all their bits are, and
-// `over` has every bit that one of them has. Words too great for any handle show in it.
+// `over` has every bit that one of them has. Words too great for any handle show in it. Numbers and no bools: so no branch
+// depends on a word.
 #[derive(Clone, Copy, Debug, PartialEq, Eq)]
 pub struct Seen {
     pub all: u32,
@@ -73,7 +74,9 @@ fn ask_all(row: &[u32; 8192], words: &[u32]) -> Seen
     seen.words(row, rest)
 }
 
-// Each of some words is 0 or the handle of a taken block. No branch depends on what they are.
+// Each of some words is 0 or the handle of a taken block. No branch depends on what they are. Within its callers the loop
+// would have too few registers: the judge took 4 % longer.
+#[inline(never)]
 pub fn all_none_or_taken(row: &[u32; 8192], words: &[u32]) -> bool
     ensures { result ≡ all_below (length words.now) (λ p. row_none_or_taken row.now (get_or words.now p 0)) }
 {

@@ -39,8 +39,8 @@ impl Queue {
     }
 }
 
-// One turn: takes blocks off the queue, at least one, and puts on what they refer to. List and marks are lent, so they
-// are passed one by one: in a struct each method would have to promise that it keeps both references.
+// One turn: takes blocks off the queue, at least one, and puts on what they refer to. List and marks are passed one by one, as
+// `keep_new` takes them, which docs/STATEMENTS.md names.
 fn turn(arena: &[u32], queue: Queue, list: &mut [u32], marks: &mut [u32], row: &mut [u32]) -> Queue
     requires { Turn arena.now list.old queue.head queue.tail marks.old row.old }
     ensures { Turned arena.now list.old queue.head queue.tail result.head result.tail list.new marks.new }

@@ -1,4 +1,5 @@
-// The class table, and the class of a block.
+// The class table, and the class of a block. A class is a number from 3 to 12: a type for these would ask more of a caller, and
+// docs/STATEMENTS.md names the functions that take one.
 ghost use Rattle.std.specs.Prelude.{◌≡◌, ◌<◌, ◌≤◌};
 ghost use Rattle.model.specs.Class.{blocks, block_words, level_words, class_of};
 
