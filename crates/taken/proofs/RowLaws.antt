@@ -305,26 +305,11 @@ row_count {ws} {row} t e =
     ap (λ (n : ℕ). count_below (2048 * n) (λ x. row_bit row (x + 1))) (sym e)
     ∙ count_below_ext (2048 * segments ws) (λ x. row_bit row (x + 1)) (λ x. is_taken ws (x + 1)) (row_bit_taken t)
 
--- the ones of one word more
-pub count_word : (row : List ℕ) (o : ℕ)
-    → count_below (32 * (o + 1)) (λ x. row_bit row (x + 1)) ≡ count_below (32 * o) (λ x. row_bit row (x + 1)) + count_below 32 (bit (word row (1 + o)))
-count_word row o =
-    ap (λ (n : ℕ). count_below n (λ x. row_bit row (x + 1))) (omega arith)
-    ∙ count_below_add (32 * o) 32 (λ x. row_bit row (x + 1))
-    ∙ ap (λ (c : ℕ). count_below (32 * o) (λ x. row_bit row (x + 1)) + c)
-    (count_below_ext 32 (λ k. row_bit row (32 * o + k + 1)) (bit (word row (1 + o)))
-    (λ k l. ap₂ (λ (p b : ℕ). bit (word row p) b) (omega arith) (omega arith)))
-
--- and of all words of n segments, one by one
+-- the ones of n words behind the first
 pub count_words : (row : List ℕ) (n : ℕ) → 1 + n ≤ length row
-    → sum_by (λ w. count_below 32 (bit w)) (take n (drop 1 row)) ≡ count_below (32 * n) (λ x. row_bit row (x + 1))
-unfolding count_below
-count_words row zero l = refl
-count_words row (suc n) l =
-    ap (λ (m : ℕ). sum_by (λ w. count_below 32 (bit w)) (take m (drop 1 row))) (sym (add-one n))
-    ∙ sum_by_more (λ w. count_below 32 (bit w)) (drop 1 row) n 0 (simp length-drop (omega arith))
-    ∙ ap₂ ◌+◌ (count_words row n (omega arith)) (ap (λ (w : ℕ). count_below 32 (bit w)) (get_or-drop 1 row n 0))
-    ∙ sym (count_word row n) ∙ ap (λ (m : ℕ). count_below (32 * m) (λ x. row_bit row (x + 1))) (add-one n)
+    → sum_below (length (part row 1 n)) (λ j. count_below 32 (bit (word (part row 1 n) j))) ≡ count_below (n * 32) (λ x. row_bit row (x + 1))
+count_words row n h =
+    ones_of_part row 1 n (λ x. row_bit row (x + 1)) h (λ j b u l. ap₂ (λ (p b : ℕ). bit (word row p) b) (omega arith) (omega arith))
 
 -- ---- asking it of many words
 
