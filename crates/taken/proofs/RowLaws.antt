@@ -5,26 +5,24 @@ use mathlib.Core.Path.{◌≡◌, refl, sym, ap, ap₂, ◌∙◌}
 use mathlib.Core.Bool.{Bool, true, false, not, ◌&&◌, ◌||◌, and_comm, and-false}
 use mathlib.Core.Logic.{inl, inr}
 use mathlib.Core.List.{List, ◌++◌}
-use native.Mathlib.Numerals.{add-one}
 use native.Mathlib.Omega.{arith}
-use Rattle.std.proofs.Common.{sum_by}
-use Rattle.std.proofs.lemmas.List.Sums.{sum_by_more}
 use lib.Dec.{eqb, ltb}
-use lib.ListN.{length, replicate, take, drop, length-drop, length-replicate, get_or-replicate, get_or-eq_default, length-append, get_or-append}
+use lib.ListN.{length, replicate, length-replicate, get_or-replicate, get_or-eq_default, length-append, get_or-append}
 use native.Mathlib.Decide.{dec_lt}
-use lib.Seq.{get_or-drop, get_or-append-add}
+use lib.Seq.{get_or-append-add}
 use lib.Bits.{bit_and, bit_or, or_lt, and_lt, or_add_and, and_le_l, and_le_r}
 use lib.Pow.{shr_le}
 use borrow.Author.Tests.{lt-ltb, le-ltb, eq-eqb, ne_eqb, ltb-true, ltb-false}
-use Rattle.model.specs.Below.{count_below, all_below as every}
-use Rattle.model.specs.Word.{word, bit, ones, word_of_bits}
+use Rattle.model.specs.Below.{count_below, sum_below, all_below as every}
+use Rattle.model.specs.Word.{word, part, bit, ones, word_of_bits}
 use Rattle.model.specs.Class.{blocks, words_for}
 use Rattle.model.specs.Layout.{arena_length, record_at, segment_of, index_of}
 use Rattle.model.specs.View.{segments, place_rank, place_index, record_of, class, rank, bit_of}
 use Rattle.model.specs.Standing.{in_pool, is_block, before_place, taken_at, is_taken, none_or_taken, taken_count}
-use Rattle.laws.proofs.Below.{all_below_ext, all_below_add, count_below_ext, count_below_add}
+use Rattle.laws.proofs.Below.{all_below_ext, all_below_add, count_below_ext}
 use Rattle.laws.proofs.Splice.{length_part}
 use Rattle.laws.proofs.Bits.{bit_zero, bit_ones, bit_past, bit_pow, bit_shift, bit_of_and, bit_of_or, bit_word_of_bits, word_of_bits_lt, word_of_bits_ext, word_ext}
+use Rattle.words.proofs.OnesLaws.{ones_of_part}
 use Rattle.arena.specs.Rows.{row_bit}
 use Rattle.taken.specs.Row.{asked_bit, TakenRow, row_taken, row_none_or_taken, Limit, row_word, Filled, ZeroRow, Fill, taken_word, Segment, all_words, seen_right}
 
