@@ -3,7 +3,7 @@
 use Prim.Native.Nat.{ℕ, ◌+◌, ◌*◌, ◌/◌, ◌%◌, ◌^◌, ◌≤◌, ◌<◌}
 use native.Mathlib.Omega.{arith}
 use native.Mathlib.Nat.{lt_of_lt_of_le, mod-lt}
-use mathlib.Core.Path.{◌≡◌, refl, sym, ap, ◌∙◌}
+use mathlib.Core.Path.{◌≡◌, refl, sym, ◌∙◌}
 use mathlib.Core.Bool.{true, ◌||◌}
 use mathlib.Core.List.{List}
 use lib.ListN.{length}
@@ -48,6 +48,6 @@ pub count_in_part : (rec : List ℕ) (m : ℕ) → 1 + m ≤ length rec
 count_in_part rec m h =
     ones_of_part rec 1 m (bit_in rec) h
     (λ j b u l.
-      let own : (j * 32 + b) / 32 ≡ j = omega arith in
-      let place : (j * 32 + b) % 32 ≡ b = omega arith in
-      rw (own, place))
+    let own : (j * 32 + b) / 32 ≡ j = omega arith in
+    let place : (j * 32 + b) % 32 ≡ b = omega arith in
+    rw (own, place))

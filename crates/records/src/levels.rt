@@ -28,11 +28,7 @@ fn with_full(w: u32, b: u32, below: u32) -> u32
     requires { b < 32 }
     ensures { result ≡ word_of_bits (λ k. (eqb k b && full below) || bit w k) }
 {
-    if below == u32::MAX {
-        with_bit(w, b)
-    } else {
-        w
-    }
+    if below == u32::MAX { with_bit(w, b) } else { w }
 }
 
 // Which of some words are full.
