@@ -157,7 +157,7 @@ room_is (suc (suc zero)) up few = refl
 room_is (suc (suc (suc l))) up few = absurd (omega arith)
 
 -- level 0 of a class ends inside a record, and not before it has begun
-blocks_bounds : (i : ℕ) → is_class i ≡ true → (1 ≤ blocks i) × (blocks i ≤ 2048)
+pub blocks_bounds : (i : ℕ) → is_class i ≡ true → (1 ≤ blocks i) × (blocks i ≤ 2048)
 unfolding all_below
 blocks_bounds i class = (leb-true _ _ (class_rule (λ i. leb 1 (blocks i)) refl i class), blocks_most i class)
 
