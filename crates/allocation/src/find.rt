@@ -33,13 +33,14 @@ fn free_at(arena: &[u32], class: u32, rank: u32, from: BlockIndex) -> Option<Spo
     let segment = ranked(arena, class, rank)?;
     let k = first_free(record_of(arena, segment), class, from.0);
     if k == blocks(class) {
-        return None;
+        None
+    } else {
+        Some(Spot {
+            segment,
+            rank,
+            index: BlockIndex(k),
+        })
     }
-    Some(Spot {
-        segment,
-        rank,
-        index: BlockIndex(k),
-    })
 }
 
 // Where a class has no untaken block: block 0 of the lowest-numbered pool segment, at the next rank.

@@ -3,7 +3,7 @@
 // "The block gets its header and is 0 up to its end. The place becomes (its rank, its index + 1)." A segment
 // that joins its class gets a fresh record before that. A record and a block are written as their own words,
 // cut from the middle of the arena.
-ghost use Rattle.std.specs.Prelude.{◌≡◌, false, [], ◌∷◌, ◌+◌, ◌-◌, ◌<◌, ◌≤◌, length, replicate};
+ghost use Rattle.std.specs.Prelude.{◌≡◌, false, [], ◌∷◌, ◌-◌, ◌<◌, ◌≤◌, length, replicate};
 ghost use Rattle.model.specs.Word.{put};
 ghost use Rattle.model.specs.Layout.{place_at, place_word, record_at, record_words, block_at, header_word};
 ghost use Rattle.model.specs.Calls.{allocated};

@@ -5,9 +5,9 @@
 // slice, and no type holds that: docs/STATEMENTS.md names these functions with what they take.
 #![tactic(auto)]
 
-ghost use Rattle.std.specs.Prelude.{◌≡◌, true, ◌<◌, ◌≤◌, length};
+ghost use Rattle.std.specs.Prelude.{◌≡◌, ◌<◌, ◌≤◌, length};
 ghost use Rattle.model.specs.Word.{word, part};
-ghost use Rattle.model.specs.Class.{is_class, block_words};
+ghost use Rattle.model.specs.Class.{block_words};
 ghost use Rattle.model.specs.Layout.{place_at, block_at};
 ghost use Rattle.model.specs.View.{segments, record_of, class, rank, count};
 ghost use Rattle.arena.specs.Inside.{Segment, Block};

@@ -3,7 +3,7 @@
 use Prim.Native.Nat.{ℕ, ◌+◌, ◌*◌, ◌/◌, ◌%◌, ◌^◌, ◌≤◌, ◌<◌}
 use native.Mathlib.Omega.{arith}
 use native.Mathlib.Nat.{lt_of_lt_of_le, mod-lt}
-use mathlib.Core.Path.{◌≡◌, refl, sym, ap, ◌∙◌}
+use mathlib.Core.Path.{◌≡◌, refl, sym, ◌∙◌}
 use mathlib.Core.Bool.{true, ◌||◌}
 use mathlib.Core.List.{List}
 use lib.ListN.{length}
@@ -14,10 +14,10 @@ use Rattle.model.specs.Below.{all_below, count_below, sum_below}
 use Rattle.model.specs.Word.{word, bit, part}
 use Rattle.model.specs.Class.{is_class, blocks}
 use Rattle.model.specs.View.{bit_in}
-use Rattle.laws.proofs.Below.{count_below_ext, count_below_product, sum_below_ext}
+use Rattle.laws.proofs.Below.{count_below_ext}
 use Rattle.laws.proofs.Bits.{ones_mod, ones_count}
-use Rattle.laws.proofs.Splice.{length_part, word_part}
 use Rattle.words.proofs.ClassLaws.{class_rule}
+use Rattle.words.proofs.OnesLaws.{ones_of_part}
 use Rattle.bitmap.proofs.LevelLaws.{or_right}
 
 -- a class of 32 blocks or more fills whole words with them
@@ -43,22 +43,11 @@ count_in_word rec n h =
         rw (first, place)
 
 -- the bits of m whole words
-pub count_in_words : (rec : List ℕ) (m : ℕ) → sum_below m (λ j. count_below 32 (bit (word rec (1 + j)))) ≡ count_below (m * 32) (bit_in rec)
-count_in_words rec m =
-    sum_below_ext m (λ j. count_below 32 (bit (word rec (1 + j)))) (λ j. count_below 32 (λ b. bit_in rec (j * 32 + b)))
-    (λ j _. count_below_ext 32 (bit (word rec (1 + j))) (λ b. bit_in rec (j * 32 + b)) (λ b h. same j b h))
-    ∙ sym (count_below_product m 32 (bit_in rec))
-  where
-    same : (j b : ℕ) → b < 32 → bit (word rec (1 + j)) b ≡ bit_in rec (j * 32 + b)
-    same j b h =
-        let own : (j * 32 + b) / 32 ≡ j = omega arith in
-        let place : (j * 32 + b) % 32 ≡ b = omega arith in
-        rw (own, place)
-
 pub count_in_part : (rec : List ℕ) (m : ℕ) → 1 + m ≤ length rec
     → sum_below (length (part rec 1 m)) (λ j. count_below 32 (bit (word (part rec 1 m) j))) ≡ count_below (m * 32) (bit_in rec)
 count_in_part rec m h =
-    ap (λ (n : ℕ). sum_below n (λ j. count_below 32 (bit (word (part rec 1 m) j)))) (length_part rec 1 m h)
-    ∙ sum_below_ext m (λ j. count_below 32 (bit (word (part rec 1 m) j))) (λ j. count_below 32 (bit (word rec (1 + j))))
-    (λ j u. ap (λ (w : ℕ). count_below 32 (bit w)) (word_part rec 1 m j u))
-    ∙ count_in_words rec m
+    ones_of_part rec 1 m (bit_in rec) h
+    (λ j b u l.
+    let own : (j * 32 + b) / 32 ≡ j = omega arith in
+    let place : (j * 32 + b) % 32 ≡ b = omega arith in
+    rw (own, place))

@@ -5,6 +5,7 @@ use native.Mathlib.Omega.{arith}
 use native.Mathlib.Numerals.{add-one}
 use native.Mathlib.Decide.{dec_lt, ℕ_discrete}
 use mathlib.Core.Path.{◌≡◌, refl, sym, ap, ◌∙◌}
+use mathlib.Core.Logic.{◌≢◌}
 use mathlib.Core.Bool.{Bool, true, false, cond, not, ◌||◌, true≢false}
 use mathlib.Core.List.{List}
 use lib.ListN.{length}
@@ -44,25 +45,29 @@ first_bit rec i l k = before_end (level_end i l) (first_from k (level_end i l - 
 
 -- ---- a bit before the end, or none
 
-some_before : (end r n : ℕ) → n ≡ r → n < end → Some n ≡ before_end end r
+pub some_before : (end r n : ℕ) → n ≡ r → n < end → Some n ≡ before_end end r
 some_before end r n e h = rw (lt-ltb r end (omega arith), e)
 
-none_before : (end r : ℕ) → end ≤ r → None ≡ before_end end r
+pub none_before : (end r : ℕ) → end ≤ r → None ≡ before_end end r
 none_before end r h = rw (le-ltb r end h)
 
-before_some : (end r n : ℕ) → Some n ≡ before_end end r → (n ≡ r) × (n < end)
+pub before_some : (end r n : ℕ) → Some n ≡ before_end end r → (n ≡ r) × (n < end)
 before_some end r n = go (ltb r end) refl
   where
     go : (t : Bool) → ltb r end ≡ t → Some n ≡ cond t (Some r) None → (n ≡ r) × (n < end)
     go true e same = let n_r : n ≡ r = cc in (n_r, omega (arith, ltb-true r end e))
     go false e same = cc
 
-before_none : (end r : ℕ) → None ≡ before_end end r → end ≤ r
+pub before_none : (end r : ℕ) → None ≡ before_end end r → end ≤ r
 before_none end r = go (ltb r end) refl
   where
     go : (t : Bool) → ltb r end ≡ t → ◌≡◌ {A = Option ℕ} None (cond t (Some r) None) → end ≤ r
     go true e same = cc
     go false e same = ltb-false r end e
+
+pub not_before : (end r : ℕ) (o : Option ℕ) → o ≡ before_end end r → ((x : ℕ) → o ≢ Some x) → end ≤ r
+not_before end r None e f = before_none end r e
+not_before end r (Some x) e f = absurd (f x refl)
 
 -- an answer at or after the end is the same as none
 first_past : (p : ℕ → Bool) (a end : ℕ) → a ≤ end → None ≡ before_end end (first_from a (end - a) p) → first_from a (end - a) p ≡ end
@@ -207,29 +212,35 @@ module _ {rec : List ℕ} {i l k : ℕ} (s : Search rec i l k) where
           let e : next ≡ level_end i (suc l) = rw (add-one l) at e in
           first_none (λ x low high. words_before x low (omega (arith, hold)) (omega (arith, hold)))
 
-      -- it tells of one, and there the search comes down
-      pub down : k < level_end i l → next < level_end i (l + 1) → (c : ℕ) → c ≡ first_from 0 32 (free (word rec (level_at l + next)))
-          → Some (32 * next + c) ≡ first_bit rec i l k
+      -- it tells of one: that word has a free bit
+      pub has_free : k < level_end i l → next < level_end i (l + 1) → first_from 0 32 (free (word rec (level_at l + next))) < 32
       unfolding level_end
-      down k<end h c there =
+      has_free k<end h =
           let used_next = next_end h in
           let not_full : full (word rec (level_at l + next)) ≡ false =
           sym (next_bit next (omega arith) used_next) ∙ not-true _ (first_up.found (omega (arith, hold))) in
           let small : word rec (level_at l + next) < 2 ^ 32 =
           rw (right_level i rec s.right l l<3 next (omega (arith, words_room i l s.class l<3))) (level_word_lt i (bit_in rec) l next) in
+          stops_there (first_is 0 32 (free (word rec (level_at l + next)))) (free_bit (word rec (level_at l + next)) small not_full) (dec_lt _ 32)
+        where
+          stops_there : {c : ℕ} → First 0 32 (free (word rec (level_at l + next))) c
+              → (b : ℕ) × (b < 32) × (bit (word rec (level_at l + next)) b ≡ false) → Dec (c < 32) → c < 32
+          stops_there f z (yes h) = h
+          stops_there f z (no h) = absurd (true≢false (sym (not-false _ (f.before z.0 (omega arith) (omega (arith, z.1)))) ∙ z.2))
+
+      -- and there the search comes down
+      pub down : k < level_end i l → next < level_end i (l + 1) → (c : ℕ) → c ≡ first_from 0 32 (free (word rec (level_at l + next)))
+          → Some (32 * next + c) ≡ first_bit rec i l k
+      unfolding level_end
+      down k<end h c there =
+          let used_next = next_end h in
           let first_there : First 0 32 (free (word rec (level_at l + next))) c = rw there (first_is 0 32 (free (word rec (level_at l + next)))) in
-          let c<32 : c < 32 = stops_there c first_there (free_bit (word rec (level_at l + next)) small not_full) (dec_lt c 32) in
+          let c<32 : c < 32 = rw there (has_free k<end h) in
           let word_of : (32 * next + c) / 32 ≡ next = omega arith in
           let bit_of : (32 * next + c) % 32 ≡ c = omega arith in
           first_at (32 * next + c) (omega (arith, first_up.from)) (omega arith) (rw (word_of, bit_of) (not-true _ (first_there.found c<32)))
           (λ x low high. at_or_before c first_there used_next x low high (dec_lt (x / 32) next))
         where
-          stops_there : (c : ℕ) → First 0 32 (free (word rec (level_at l + next))) c
-              → (b : ℕ) × (b < 32) × (bit (word rec (level_at l + next)) b ≡ false) → Dec (c < 32) → c < 32
-          stops_there c f z (yes h) = h
-          stops_there c f z (no h) =
-              absurd (true≢false (sym (not-false _ (f.before z.0 (omega arith) (omega (arith, z.1)))) ∙ z.2))
-
           at_or_before : (c : ℕ) → First 0 32 (free (word rec (level_at l + next))) c → next < level_words i l
               → (x : ℕ) → k ≤ x → x < 32 * next + c → Dec (x / 32 < next) → level_bit rec l x ≡ true
           at_or_before c f used_next x low high (yes h) = words_before x low h (omega arith)
@@ -250,6 +261,9 @@ module _ {rec : List ℕ} {i l k : ℕ} (s : Search rec i l k) where
 
       pub room_above : next < level_room l
       room_above = next_room more full_word next next_is.0 next_is.1
+
+      pub free_above : k < level_end i l → first_from 0 32 (free (word rec (level_at l + next))) < 32
+      free_above k<end = has_free more full_word next next_is.0 k<end next_is.1
 
       pub found_above : k < level_end i l → (c : ℕ) → c ≡ first_from 0 32 (free (word rec (level_at l + next))) → Some (32 * next + c) ≡ first_bit rec i l k
       found_above k<end c there = down more full_word next next_is.0 k<end next_is.1 c there

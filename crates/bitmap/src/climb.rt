@@ -1,5 +1,5 @@
 // Setting the bit of a block.
-ghost use Rattle.std.specs.Prelude.{◌≡◌, ◌||◌, ◌∷◌, ◌+◌, ◌/◌, ◌<◌, eqb};
+ghost use Rattle.std.specs.Prelude.{◌≡◌, ◌||◌, ◌∷◌, ◌+◌, ◌/◌, eqb};
 ghost use Rattle.model.specs.Word.{word, full};
 ghost use Rattle.model.specs.Layout.{level_at, level_rows};
 ghost use Rattle.model.specs.View.{bit_in};

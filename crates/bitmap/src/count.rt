@@ -1,21 +1,12 @@
 // The number of set bits, padding apart.
-ghost use Rattle.std.specs.Prelude.{◌≡◌, ◌%◌, ◌^◌, ◌<◌, ◌≤◌, length};
-ghost use Rattle.model.specs.Below.{count_below, sum_below};
-ghost use Rattle.model.specs.Word.{word, bit};
+ghost use Rattle.std.specs.Prelude.{◌≡◌, ◌%◌, ◌^◌, ◌<◌};
+ghost use Rattle.model.specs.Below.{count_below};
 ghost use Rattle.model.specs.Class.{blocks};
 ghost use Rattle.model.specs.View.{bit_in};
 ghost use Rattle.bitmap.specs.Tree.{OfClass};
 
-use words::bits::ones;
+use words::bits::{ones, ones_in};
 use words::class::blocks;
-
-// The ones of some words.
-pub fn ones_in(ws: &[u32]) -> u32
-    requires { length ws.now ≤ 64 }
-    ensures { result ≡ sum_below (length ws.now) (λ j. count_below 32 (bit (word ws.now j))) }
-{
-    ws.iter().map(|&w| ones(w)).sum()
-}
 
 // The first n bits of a word, and 0 behind them.
 fn low_bits(w: u32, n: u32) -> u32

@@ -49,13 +49,14 @@ impl<'a> Level<'a> {
         })
     }
 
-    // The first free bit at or after b in word j, 32 where there is none, as words::bits::first_free promises.
-    fn free_in(self, j: u32, b: u32) -> u32
+    // The first free bit at or after b in word j, if there is one.
+    fn free_in(self, j: u32, b: u32) -> Option<u32>
         requires { (j < level_room self.level) × (b ≤ 32) }
-        ensures { (result ≡ first_from b (32 - b) (λ x. not (bit (word self.entry.rec.now (level_at self.entry.level + j)) x)))
-            × (result ≤ 32) }
+        ensures { result ≡ before_end 32
+            (first_from b (32 - b) (λ x. not (bit (word self.entry.rec.now (level_at self.entry.level + j)) x))) }
     {
-        first_free_bit(self.rec[word_at(self.level, j)], b)
+        let free = first_free_bit(self.rec[word_at(self.level, j)], b);
+        if free < 32 { Some(free) } else { None }
     }
 
     // The first free bit at or after k, if there is one. Where the word of k has none, the level above tells the first
@@ -69,12 +70,11 @@ impl<'a> Level<'a> {
             return None;
         }
         let j = k / 32;
-        let b = self.free_in(j, k % 32);
-        if b < 32 {
+        if let Some(b) = self.free_in(j, k % 32) {
             return Some(32 * j + b);
         }
         let next = self.above()?.first_free(j + 1)?;
-        Some(32 * next + self.free_in(next, 0))
+        Some(32 * next + self.free_in(next, 0)?)
     }
 }
 

@@ -8,7 +8,7 @@ use mathlib.Core.List.{List}
 use mathlib.Core.Path.{◌≡◌, refl, sym, ap, ap₂, ◌∙◌}
 use borrow.Author.Tests.{eq-eqb}
 use Rattle.model.specs.Below.{count_below, sum_below}
-use Rattle.model.specs.Word.{word, bit}
+use Rattle.model.specs.Word.{word, bit, part}
 use Rattle.model.specs.Class.{blocks}
 use Rattle.model.specs.Layout.{handle}
 use Rattle.model.specs.View.{segments, class}
@@ -16,6 +16,7 @@ use Rattle.model.specs.Standing.{taken_at}
 use Rattle.model.specs.Calls.{room}
 use Rattle.laws.proofs.Below.{count_below_ext, count_below_add, count_below_none, count_below_not, count_below_le}
 use Rattle.words.proofs.ClassLaws.{bounds_class, blocks_most}
+use Rattle.words.proofs.OnesLaws.{ones_of_part}
 use Rattle.soundness.proofs.Taken.{past_untaken}
 use Rattle.arena.specs.Rows.{row_bit}
 use Rattle.taken.specs.Row.{TakenRow}
@@ -34,26 +35,11 @@ use Rattle.drawing.specs.Rooms.{room_in}
 abbrev pub segment_bit : List ℕ → ℕ → ℕ → Bool
 segment_bit row s k = row_bit row (handle s k)
 
--- the ones of one word more
-pub count_more : (row : List ℕ) (s j : ℕ)
-    → count_below (32 * (j + 1)) (segment_bit row s) ≡ count_below (32 * j) (segment_bit row s) + count_below 32 (bit (word row (1 + 64 * s + j)))
-count_more row s j =
-    ap (λ (n : ℕ). count_below n (segment_bit row s)) (omega arith)
-    ∙ count_below_add (32 * j) 32 (segment_bit row s)
-    ∙ ap (λ (c : ℕ). count_below (32 * j) (segment_bit row s) + c)
-    (count_below_ext 32 (λ k. segment_bit row s (32 * j + k)) (bit (word row (1 + 64 * s + j)))
-    (λ k l. ap₂ (λ (p b : ℕ). bit (word row p) b) (omega arith) (omega arith)))
-
--- and of all words of n, one by one
-pub count_words : (row : List ℕ) (s n : ℕ) → 1 + 64 * s + n ≤ length row
-    → sum_by (λ w. count_below 32 (bit w)) (take n (drop (1 + 64 * s) row)) ≡ count_below (32 * n) (segment_bit row s)
-unfolding count_below
-count_words row s zero l = refl
-count_words row s (suc n) l =
-    ap (λ (m : ℕ). sum_by (λ w. count_below 32 (bit w)) (take m (drop (1 + 64 * s) row))) (sym (add-one n))
-    ∙ sum_by_more (λ w. count_below 32 (bit w)) (drop (1 + 64 * s) row) n 0 (simp length-drop (omega arith))
-    ∙ ap₂ ◌+◌ (count_words row s n (omega arith)) (ap (λ (w : ℕ). count_below 32 (bit w)) (get_or-drop (1 + 64 * s) row n 0))
-    ∙ sym (count_more row s n) ∙ ap (λ (m : ℕ). count_below (32 * m) (segment_bit row s)) (add-one n)
+-- the ones of its 64 words
+pub count_words : (row : List ℕ) (s : ℕ) → 1 + 64 * s + 64 ≤ length row
+    → sum_below (length (part row (1 + 64 * s) 64)) (λ j. count_below 32 (bit (word (part row (1 + 64 * s) 64) j))) ≡ count_below 2048 (segment_bit row s)
+count_words row s h =
+    ones_of_part row (1 + 64 * s) 64 (segment_bit row s) h (λ j b u l. ap₂ (λ (p b : ℕ). bit (word row p) b) (omega arith) (omega arith))
 
 -- ---- untaken blocks
 

@@ -8,7 +8,7 @@ ghost use Rattle.drawing.specs.Rooms.{SegmentOf, room_in};
 
 use crate::look::Sound;
 use arena::segments;
-use words::bits::ones;
+use words::bits::ones_in;
 use words::class::blocks;
 
 // The taken blocks of a segment: the ones of its 64 words.
@@ -18,7 +18,7 @@ fn taken_in(row: &[u32; 8192], segment: u32) -> u32
 {
     let from = 1 + 64 * segment as usize;
     let end = from + 64;
-    row[from..end].iter().map(|w| ones(*w)).sum()
+    ones_in(&row[from..end])
 }
 
 impl Sound<'_, '_> {

@@ -16,9 +16,10 @@ use Rattle.model.specs.View.{segments, class}
 use Rattle.model.specs.Standing.{in_pool}
 use Rattle.model.specs.Ways.{listed}
 use Rattle.model.specs.Calls.{live}
-use Rattle.laws.proofs.Below.{count_below_ext, count_below_add, count_below_le, count_below_none, count_below_product, sum_below_ext}
+use Rattle.laws.proofs.Below.{count_below_ext, count_below_add, count_below_le, count_below_none}
 use Rattle.laws.proofs.Splice.{length_part, word_part}
 use Rattle.words.proofs.ClassLaws.{blocks_most}
+use Rattle.words.proofs.OnesLaws.{ones_are}
 use Rattle.arena.specs.Rows.{row_bit, Marked}
 use Rattle.arena.proofs.RowLaws.{row_bit_block}
 use Rattle.soundness.proofs.Tests.{not_passed}
@@ -33,10 +34,7 @@ pub live_ones : (marks : List ℕ) (s : ℕ) → 1 + 64 * s + 64 ≤ length mark
     → sum_below (length (marks_of marks s)) (λ j. count_below 32 (bit (word (marks_of marks s) j))) ≡ live_in marks s
 unfolding live_in
 live_ones marks s h =
-    ap (λ (n : ℕ). sum_below n (λ j. count_below 32 (bit (word m j)))) (length_part marks (1 + 64 * s) 64 h)
-    ∙ sum_below_ext 64 (λ j. count_below 32 (bit (word m j))) (λ j. count_below 32 (λ b. mark_in m (j * 32 + b)))
-    (λ j _. count_below_ext 32 (bit (word m j)) (λ b. mark_in m (j * 32 + b)) (same j))
-    ∙ sym (count_below_product 64 32 (mark_in m))
+    ones_are m 64 (mark_in m) (length_part marks (1 + 64 * s) 64 h) (λ j b u l. same j b l)
   where
     m : List ℕ
     m = marks_of marks s

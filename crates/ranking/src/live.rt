@@ -2,7 +2,7 @@
 ghost use Rattle.std.specs.Prelude.{◌≡◌, ◌≤◌};
 ghost use Rattle.ranking.specs.Live.{RowOf, Row, live_in, Live};
 
-use bitmap::count::ones_in;
+use words::bits::ones_in;
 
 // The marks of a segment are 64 words; behind its blocks none is set.
 fn live_in(marks: &[u32], s: u32) -> u32

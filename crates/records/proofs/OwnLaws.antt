@@ -20,6 +20,7 @@ use Rattle.laws.proofs.Below.{all_below_step, all_below_at, all_below_intro, all
 use Rattle.laws.proofs.Bits.{bit_zero, bit_of_or, bit_word_of_bits, word_of_bits_lt, word_of_bits_ext, word_of_its_bits, word_ext}
 use Rattle.laws.proofs.Splice.{length_part, word_part}
 use Rattle.words.proofs.ClassLaws.{class_rule, blocks_most}
+use Rattle.bitmap.specs.Tree.{OfClass}
 use Rattle.bitmap.proofs.LevelLaws.{level_set, level_word_is, padded_used, padded_unused, padded_ext, words_room}
 use Rattle.soundness.proofs.Tests.{Order, is_below, is_same, is_above, order}
 use Rattle.records.specs.Own.{own_set, own_word, word_right, level_right, LowestOf}
@@ -206,11 +207,37 @@ own_levels i rec class =
     (λ t. above_same i rec 0 class (omega arith) (sym (lowest_same i rec) ∙ t)) (above_same i rec 1 class (omega arith))
     ∙ ap (λ (t : Bool). (t && model_right i rec 1) && model_right i rec 2) (lowest_same i rec) ∙ sym (all_three (model_right i rec))
 
--- each level's number of words told by that of the level below
+-- level 0 by so many words and bits, and the levels above it by theirs
 abbrev pub by_own : List ℕ → ℕ → ℕ → ℕ → ℕ → Bool
 by_own rec end words above top = level_right words end rec 0 && (level_right above words rec 1 && level_right top above rec 2)
 
-pub levels_own : (i : ℕ) (rec : List ℕ) {end words above top : ℕ} → is_class i ≡ true → end ≡ blocks i → words ≡ words_for end
-    → above ≡ cond (ltb 1 words) (words_for words) 0 → top ≡ cond (ltb 1 above) (words_for above) 0 → by_own rec end words above top ≡ levels_right i rec
-unfolding level_words level_end
+pub levels_own : (i : ℕ) (rec : List ℕ) {end words above top : ℕ} → is_class i ≡ true → end ≡ blocks i → words ≡ level_words i 0
+    → above ≡ level_words i 1 → top ≡ level_words i 2 → by_own rec end words above top ≡ levels_right i rec
+unfolding level_end
 levels_own i rec {end} {words} {above} {top} class ends at_0 at_1 at_2 = rw (at_2, at_1, at_0, ends) (own_levels i rec class)
+
+-- a level has words for its bits, and each of them begins before its end
+round_up : (n : ℕ) → 32 * words_for n < n + 32
+round_up n = omega arith
+
+above_begin : (i l : ℕ) → 32 * level_words i (suc l) < level_words i l + 32
+unfolding level_words
+above_begin i l = go (level_words i l) (ltb 1 (level_words i l))
+  where
+    go : (n : ℕ) (t : Bool) → 32 * cond t (words_for n) 0 < n + 32
+    go n true = round_up n
+    go n false = omega arith
+
+pub lowest_asked : (i : ℕ) (rec : List ℕ) {end words : ℕ} → OfClass rec i → end ≡ blocks i → words ≡ level_words i 0 → LowestOf rec words end
+unfolding level_words
+lowest_asked i rec h ends at_0 = record {
+  long = h.long;
+  some = omega (arith, at_0, (blocks_bounds i h.class).0);
+  room = omega (arith, at_0, (blocks_bounds i h.class).1);
+  begin = omega (arith, at_0, ends, round_up (blocks i));
+}
+
+-- of level l + 1: where its words begin, and for how many bits the level below has room
+pub above_asked : (i l : ℕ) {words above : ℕ} → is_class i ≡ true → l < 3 → words ≡ level_words i l → above ≡ level_words i (suc l)
+    → (32 * above < words + 32) × (words ≤ level_room l)
+above_asked i l class l<3 below own = (omega (arith, below, own, above_begin i l), omega (arith, below, words_room i l class l<3))

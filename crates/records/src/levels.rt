@@ -3,9 +3,8 @@
 // Where a level is right, the level above it is told by the words that stand there. So a level above level 0 is judged by
 // the one below it. Of level 0 the bits before its end are right whatever they are: only the padding in its last used word
 // and the unused words behind that are judged.
-ghost use Rattle.std.specs.Prelude.{◌≡◌, cond, ◌&&◌, ◌||◌, ◌+◌, ◌-◌, ◌*◌, ◌<◌, ◌≤◌, min, eqb, leb, ltb, length};
+ghost use Rattle.std.specs.Prelude.{◌≡◌, ◌&&◌, ◌||◌, ◌+◌, ◌-◌, ◌*◌, ◌<◌, ◌≤◌, min, eqb, leb, length};
 ghost use Rattle.model.specs.Word.{word, part, bit, full, word_of_bits};
-ghost use Rattle.model.specs.Class.{words_for};
 ghost use Rattle.model.specs.Layout.{level_at, level_room};
 ghost use Rattle.model.specs.Sound.{levels_right};
 ghost use Rattle.bitmap.specs.Tree.{OfClass};
@@ -14,23 +13,7 @@ ghost use Rattle.records.specs.Own.{own_word, word_right, level_right, LowestOf}
 use crate::zero::zero;
 use bitmap::levels::word_at;
 use words::bits::{ones_from, with_bit};
-use words::class::blocks;
-
-// How many words hold n bits.
-fn words_for(n: u32) -> u32
-    requires { (1 ≤ n) × (n ≤ 2048) }
-    ensures { (result ≡ words_for n) × (1 ≤ result) × (result ≤ 64) × (32 * result < n + 32) }
-{
-    n.div_ceil(32)
-}
-
-// How many words a level has above one of n words.
-fn words_above(n: u32) -> u32
-    requires { n ≤ 64 }
-    ensures { (result ≡ cond (ltb 1 n) (words_for n) 0) × (result ≤ 2) × (32 * result < n + 32) }
-{
-    if n < 2 { 0 } else { words_for(n) }
-}
+use words::class::{blocks, level_words};
 
 // How many bits of word j lie before a level's end.
 fn bits_in(end: u32, j: u32) -> u32
@@ -45,11 +28,7 @@ fn with_full(w: u32, b: u32, below: u32) -> u32
     requires { b < 32 }
     ensures { result ≡ word_of_bits (λ k. (eqb k b && full below) || bit w k) }
 {
-    if below == 0xFFFF_FFFF {
-        with_bit(w, b)
-    } else {
-        w
-    }
+    if below == u32::MAX { with_bit(w, b) } else { w }
 }
 
 // Which of some words are full.
@@ -133,9 +112,9 @@ pub fn levels_right(rec: &[u32], class: u32) -> bool
     ensures { result ≡ levels_right class rec.now }
 {
     let end = blocks(class);
-    let words = words_for(end);
-    let above = words_above(words);
-    let top = words_above(above);
+    let words = level_words(class, 0);
+    let above = level_words(class, 1);
+    let top = level_words(class, 2);
     let level_1 = Level {
         rec,
         level: 1,

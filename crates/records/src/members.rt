@@ -1,7 +1,8 @@
 // What is asked of each segment that is not in the pool: right levels, a right count, and not to be full behind the place.
 //
 // The three tests of a segment ask for the same fact by `requires`: a struct that kept it would be made in the closures below,
-// and each of these would have to state it.
+// and each of these would have to state it. Nor do they go through one function over a test: its callers' closures would each
+// have to say what they ask, as in ranks.
 ghost use Rattle.std.specs.Prelude.{◌≡◌};
 ghost use Rattle.model.specs.Sound.{levels, counts, behind};
 ghost use Rattle.arena.specs.Inside.{Classed};

@@ -5,26 +5,24 @@ use mathlib.Core.Path.{◌≡◌, refl, sym, ap, ap₂, ◌∙◌}
 use mathlib.Core.Bool.{Bool, true, false, not, ◌&&◌, ◌||◌, and_comm, and-false}
 use mathlib.Core.Logic.{inl, inr}
 use mathlib.Core.List.{List, ◌++◌}
-use native.Mathlib.Numerals.{add-one}
 use native.Mathlib.Omega.{arith}
-use Rattle.std.proofs.Common.{sum_by}
-use Rattle.std.proofs.lemmas.List.Sums.{sum_by_more}
 use lib.Dec.{eqb, ltb}
-use lib.ListN.{length, replicate, take, drop, length-drop, length-replicate, get_or-replicate, get_or-eq_default, length-append, get_or-append}
+use lib.ListN.{length, replicate, length-replicate, get_or-replicate, get_or-eq_default, length-append, get_or-append}
 use native.Mathlib.Decide.{dec_lt}
-use lib.Seq.{get_or-drop, get_or-append-add}
+use lib.Seq.{get_or-append-add}
 use lib.Bits.{bit_and, bit_or, or_lt, and_lt, or_add_and, and_le_l, and_le_r}
 use lib.Pow.{shr_le}
 use borrow.Author.Tests.{lt-ltb, le-ltb, eq-eqb, ne_eqb, ltb-true, ltb-false}
-use Rattle.model.specs.Below.{count_below, all_below as every}
-use Rattle.model.specs.Word.{word, bit, ones, word_of_bits}
+use Rattle.model.specs.Below.{count_below, sum_below, all_below as every}
+use Rattle.model.specs.Word.{word, part, bit, ones, word_of_bits}
 use Rattle.model.specs.Class.{blocks, words_for}
 use Rattle.model.specs.Layout.{arena_length, record_at, segment_of, index_of}
 use Rattle.model.specs.View.{segments, place_rank, place_index, record_of, class, rank, bit_of}
 use Rattle.model.specs.Standing.{in_pool, is_block, before_place, taken_at, is_taken, none_or_taken, taken_count}
-use Rattle.laws.proofs.Below.{all_below_ext, all_below_add, count_below_ext, count_below_add}
+use Rattle.laws.proofs.Below.{all_below_ext, all_below_add, count_below_ext}
 use Rattle.laws.proofs.Splice.{length_part}
 use Rattle.laws.proofs.Bits.{bit_zero, bit_ones, bit_past, bit_pow, bit_shift, bit_of_and, bit_of_or, bit_word_of_bits, word_of_bits_lt, word_of_bits_ext, word_ext}
+use Rattle.words.proofs.OnesLaws.{ones_of_part}
 use Rattle.arena.specs.Rows.{row_bit}
 use Rattle.taken.specs.Row.{asked_bit, TakenRow, row_taken, row_none_or_taken, Limit, row_word, Filled, ZeroRow, Fill, taken_word, Segment, all_words, seen_right}
 
@@ -305,26 +303,11 @@ row_count {ws} {row} t e =
     ap (λ (n : ℕ). count_below (2048 * n) (λ x. row_bit row (x + 1))) (sym e)
     ∙ count_below_ext (2048 * segments ws) (λ x. row_bit row (x + 1)) (λ x. is_taken ws (x + 1)) (row_bit_taken t)
 
--- the ones of one word more
-pub count_word : (row : List ℕ) (o : ℕ)
-    → count_below (32 * (o + 1)) (λ x. row_bit row (x + 1)) ≡ count_below (32 * o) (λ x. row_bit row (x + 1)) + count_below 32 (bit (word row (1 + o)))
-count_word row o =
-    ap (λ (n : ℕ). count_below n (λ x. row_bit row (x + 1))) (omega arith)
-    ∙ count_below_add (32 * o) 32 (λ x. row_bit row (x + 1))
-    ∙ ap (λ (c : ℕ). count_below (32 * o) (λ x. row_bit row (x + 1)) + c)
-    (count_below_ext 32 (λ k. row_bit row (32 * o + k + 1)) (bit (word row (1 + o)))
-    (λ k l. ap₂ (λ (p b : ℕ). bit (word row p) b) (omega arith) (omega arith)))
-
--- and of all words of n segments, one by one
+-- the ones of n words behind the first
 pub count_words : (row : List ℕ) (n : ℕ) → 1 + n ≤ length row
-    → sum_by (λ w. count_below 32 (bit w)) (take n (drop 1 row)) ≡ count_below (32 * n) (λ x. row_bit row (x + 1))
-unfolding count_below
-count_words row zero l = refl
-count_words row (suc n) l =
-    ap (λ (m : ℕ). sum_by (λ w. count_below 32 (bit w)) (take m (drop 1 row))) (sym (add-one n))
-    ∙ sum_by_more (λ w. count_below 32 (bit w)) (drop 1 row) n 0 (simp length-drop (omega arith))
-    ∙ ap₂ ◌+◌ (count_words row n (omega arith)) (ap (λ (w : ℕ). count_below 32 (bit w)) (get_or-drop 1 row n 0))
-    ∙ sym (count_word row n) ∙ ap (λ (m : ℕ). count_below (32 * m) (λ x. row_bit row (x + 1))) (add-one n)
+    → sum_below (length (part row 1 n)) (λ j. count_below 32 (bit (word (part row 1 n) j))) ≡ count_below (n * 32) (λ x. row_bit row (x + 1))
+count_words row n h =
+    ones_of_part row 1 n (λ x. row_bit row (x + 1)) h (λ j b u l. ap₂ (λ (p b : ℕ). bit (word row p) b) (omega arith) (omega arith))
 
 -- ---- asking it of many words
 

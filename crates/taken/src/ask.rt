@@ -5,7 +5,7 @@ ghost use Rattle.model.specs.Word.{bit};
 ghost use Rattle.arena.specs.Rows.{row_bit};
 ghost use Rattle.taken.specs.Row.{asked_bit, row_taken, row_none_or_taken, all_words, seen_right};
 
-use words::bits::ones;
+use words::bits::ones_in;
 
 // A word whose lowest bit is the one that is asked for a handle.
 fn asked(row: &[u32; 8192], h: u32) -> u32
@@ -90,5 +90,5 @@ pub fn taken_count(row: &[u32; 8192], n: u32) -> u32
     ensures { result ≡ count_below (2048 * n) (λ x. row_bit row.now (x + 1)) }
 {
     let end = 1 + 64 * n as usize;
-    row[1..end].iter().map(|w| ones(*w)).sum()
+    ones_in(&row[1..end])
 }

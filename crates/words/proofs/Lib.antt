@@ -1,3 +1,4 @@
 pub mod ClassLaws
 pub mod FieldLaws
 pub mod HandleLaws
+pub mod OnesLaws

@@ -1,7 +1,7 @@
 // Bits of a word, counted from the least significant: what bitmaps are made of.
-ghost use Rattle.std.specs.Prelude.{◌≡◌, not, ◌||◌, ◌-◌, ◌<◌, ◌≤◌, eqb, leb};
-ghost use Rattle.model.specs.Below.{count_below, first_from};
-ghost use Rattle.model.specs.Word.{bit, word_of_bits};
+ghost use Rattle.std.specs.Prelude.{◌≡◌, not, ◌||◌, ◌-◌, ◌<◌, ◌≤◌, eqb, leb, length};
+ghost use Rattle.model.specs.Below.{count_below, first_from, sum_below};
+ghost use Rattle.model.specs.Word.{word, bit, word_of_bits};
 
 pub fn bit(w: u32, b: u32) -> bool
     requires { b < 32 }
@@ -41,4 +41,12 @@ pub fn ones(w: u32) -> u32
     ensures { result ≡ count_below 32 (bit w) }
 {
     w.count_ones()
+}
+
+// The ones of some words.
+pub fn ones_in(ws: &[u32]) -> u32
+    requires { length ws.now ≤ 4096 }
+    ensures { result ≡ sum_below (length ws.now) (λ j. count_below 32 (bit (word ws.now j))) }
+{
+    ws.iter().map(|w| ones(*w)).sum()
 }

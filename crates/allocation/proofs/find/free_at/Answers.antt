@@ -30,11 +30,11 @@ first_free-k-requires c =
     free_asked a.arena.now a.class a.rank a.from.0 _ c.record_of.result.now c.requires
     (found (goal.at.first_free-k-requires c).In_ok-segment) c.record_of.ensures
 
-pub returns : goal.returns
-returns c =
+pub returns-else-k-blocks : goal.returns-else-k-blocks
+returns-else-k-blocks c =
     let a = c.args in
     let h = c.requires in
-    let segment : c.in_ok-segment.segment ≡ ranked a.arena.now a.class a.rank = found (goal.at.returns c).In_ok-segment in (
+    let segment : c.in_ok-segment.segment ≡ ranked a.arena.now a.class a.rank = found (goal.at.returns-else-k-blocks c).In_ok-segment in (
       record {
         segment = segment;
         rank = refl;
