@@ -9,14 +9,13 @@ use native.Mathlib.Numerals.{add-one}
 use native.Mathlib.Omega.{arith}
 use Rattle.std.proofs.Common.{sum_by}
 use Rattle.std.proofs.lemmas.List.Sums.{sum_by_more}
-use lib.Dec.{eqb, ltb}
+use lib.Dec.{eqb, leb, ltb}
 use lib.ListN.{length, replicate, take, drop, length-drop, length-replicate, get_or-replicate, get_or-eq_default, length-append, get_or-append}
 use native.Mathlib.Decide.{dec_lt}
 use lib.Seq.{get_or-drop, get_or-append-add}
 use lib.Bits.{bit_and, bit_or, or_lt, and_lt, or_add_and, and_le_l, and_le_r}
-use lib.Pow.{shr_le}
-use borrow.Author.Tests.{lt-ltb, le-ltb, eq-eqb, ne_eqb, ltb-true, ltb-false}
-use Rattle.model.specs.Below.{count_below, all_below as every}
+use borrow.Author.Tests.{lt-ltb, le-ltb, lt-leb, le-leb, eq-eqb, ne_eqb, ltb-true, ltb-false}
+use Rattle.model.specs.Below.{count_below, all_below}
 use Rattle.model.specs.Word.{word, bit, ones, word_of_bits}
 use Rattle.model.specs.Class.{blocks, words_for}
 use Rattle.model.specs.Layout.{arena_length, record_at, segment_of, index_of}
@@ -24,42 +23,29 @@ use Rattle.model.specs.View.{segments, place_rank, place_index, record_of, class
 use Rattle.model.specs.Standing.{in_pool, is_block, before_place, taken_at, is_taken, none_or_taken, taken_count}
 use Rattle.laws.proofs.Below.{all_below_ext, all_below_add, count_below_ext, count_below_add}
 use Rattle.laws.proofs.Splice.{length_part}
-use Rattle.laws.proofs.Bits.{bit_zero, bit_ones, bit_past, bit_pow, bit_shift, bit_of_and, bit_of_or, bit_word_of_bits, word_of_bits_lt, word_of_bits_ext, word_ext}
+use Rattle.laws.proofs.Bits.{bit_zero, bit_not, bit_pow, bit_of_and, bit_of_or, bit_word_of_bits, word_of_bits_lt, word_of_bits_ext, word_ext}
 use Rattle.arena.specs.Rows.{row_bit}
 use Rattle.taken.specs.Row.{asked_bit, TakenRow, row_taken, row_none_or_taken, Limit, row_word, Filled, ZeroRow, Fill, taken_word, Segment, all_words, seen_right}
 
 -- ---- the word of the ones below a limit
 
-pub none_below : (from limit : ℕ) → limit ≤ from → 0 ≡ word_of_bits (λ b. ltb (from + b) limit)
-none_below from limit h =
-    let f : ℕ → Bool = λ b. ltb (from + b) limit in
-    word_ext 0 (word_of_bits f) (omega arith) (word_of_bits_lt f)
-    (λ b l. bit_zero b ∙ sym (bit_word_of_bits f b l ∙ le-ltb (from + b) limit (omega arith)))
-
-pub all_below : (from limit : ℕ) → from + 32 ≤ limit → ones ≡ word_of_bits (λ b. ltb (from + b) limit)
-all_below from limit h =
-    let f : ℕ → Bool = λ b. ltb (from + b) limit in
-    word_ext ones (word_of_bits f) (omega arith) (word_of_bits_lt f)
-    (λ b l. bit_ones b l ∙ sym (bit_word_of_bits f b l ∙ lt-ltb (from + b) limit (omega arith)))
-
-pub some_below : (from limit : ℕ) → from < limit → limit - from < 32
-    → ones / 2 ^ (32 - (limit - from)) ≡ word_of_bits (λ b. ltb (from + b) limit)
-some_below from limit h u =
-    word_ext w (word_of_bits f) (omega (arith, shr_le ones past)) (word_of_bits_lt f)
-    (λ b l. bit_shift ones past b ∙ each b (f b) refl ∙ sym (bit_word_of_bits f b l))
+-- `!ones_from(limit.saturating_sub(from))`
+pub below_is : (from limit : ℕ) → ones - word_of_bits (λ b. leb (limit - from) b) ≡ word_of_bits (λ b. ltb (from + b) limit)
+below_is from limit =
+    word_ext (ones - word_of_bits behind) (word_of_bits f) (omega arith) (word_of_bits_lt f)
+    (λ b l.
+    bit_not (word_of_bits behind) b (word_of_bits_lt behind) l ∙ ap not (bit_word_of_bits behind b l)
+    ∙ each b (f b) refl ∙ sym (bit_word_of_bits f b l))
   where
     f : ℕ → Bool
     f b = ltb (from + b) limit
 
-    past : ℕ
-    past = 32 - (limit - from)
+    behind : ℕ → Bool
+    behind b = leb (limit - from) b
 
-    w : ℕ
-    w = ones / 2 ^ past
-
-    each : (b : ℕ) (t : Bool) → f b ≡ t → bit ones (past + b) ≡ f b
-    each b true e = bit_ones (past + b) (omega (arith, ltb-true (from + b) limit e)) ∙ sym e
-    each b false e = bit_past 32 ones (past + b) (omega arith) (omega (arith, ltb-false (from + b) limit e)) ∙ sym e
+    each : (b : ℕ) (t : Bool) → f b ≡ t → not (behind b) ≡ f b
+    each b true e = ap not (lt-leb (limit - from) b (omega (arith, ltb-true (from + b) limit e))) ∙ sym e
+    each b false e = ap not (le-leb (limit - from) b (omega (arith, ltb-false (from + b) limit e))) ∙ sym e
 
 -- `(below(limit, j) | w) & below(blocks, j)`
 pub taken_word_is : (w limit blocks j : ℕ) → w < 2 ^ 32
@@ -340,7 +326,7 @@ or_below a b = go (ltb a 262144) refl (ltb b 262144) refl
 -- the words of two lists
 pub all_words_append : (p : ℕ → Bool) (xs ys : List ℕ) → all_words p (xs ++ ys) ≡ (all_words p xs && all_words p ys)
 all_words_append p xs ys =
-    ap (λ (n : ℕ). every n (λ f. p (word (xs ++ ys) f))) (length-append xs ys)
+    ap (λ (n : ℕ). all_below n (λ f. p (word (xs ++ ys) f))) (length-append xs ys)
     ∙ all_below_add (length xs) (length ys) (λ f. p (word (xs ++ ys) f))
     ∙ ap₂ ◌&&◌
     (all_below_ext (length xs) (λ f. p (word (xs ++ ys) f)) (λ f. p (word xs f)) (λ f l. ap p (get_or-append xs ys 0 f l)))

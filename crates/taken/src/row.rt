@@ -11,6 +11,7 @@ ghost use Rattle.taken.specs.Row.{TakenRow, Member, Limit, Filled, ZeroRow, Blan
 
 use arena::{class, place_of, rank, record_of, segments};
 use std::cmp::Ordering;
+use words::bits::ones_from;
 use words::class::blocks;
 use words::fields::{place_index, place_rank};
 
@@ -19,11 +20,7 @@ fn below(limit: u32, j: u32) -> u32
     requires { j < 64 }
     ensures { result ≡ word_of_bits (λ b. ltb (32 * j + b) limit) }
 {
-    match limit.saturating_sub(32 * j) {
-        0 => 0,
-        left @ 1..=31 => 0xFFFF_FFFF >> (32 - left),
-        _ => 0xFFFF_FFFF,
-    }
+    !ones_from(limit.saturating_sub(32 * j))
 }
 
 // Word j of a segment, from its level-0 word.
