@@ -1,8 +1,7 @@
 -- `taken::row::below` meets its contract: what is below the limit is not from it on.
 -- Assumes nothing.
-use Prim.Native.Nat.{ℕ, ◌-◌, ◌*◌, ◌≤◌}
-use native.Mathlib.Omega.{arith}
-use mathlib.Core.Path.{◌≡◌, ap, ◌∙◌}
+use Prim.Native.Nat.{ℕ, ◌-◌, ◌*◌}
+use mathlib.Core.Path.{ap, ◌∙◌}
 use lib.Dec.{leb}
 use Rattle.model.specs.Word.{ones, word_of_bits}
 use Rattle.taken.proofs.RowLaws.{below_is}
