@@ -8,8 +8,9 @@ use native.Mathlib.Nat.{mul-add, mul-suc, add-zero, mul-le-mul_left, mul-le-mul_
 use native.Mathlib.Omega.{arith}
 use Rattle.std.proofs.Common.{Option, Some, None}
 use lib.Dec.{eqb}
-use lib.ListN.{length, take, length-append}
-use lib.Seq.{length-take-le}
+use native.Mathlib.Decide.{dec_lt}
+use lib.ListN.{length, take, drop, length-append, length-drop}
+use lib.Seq.{length-take-le, take-append_seam, drop-append_seam, drop-drop}
 use borrow.Author.Count.{below_more}
 use borrow.Author.Tests.{lt-ltb, le-ltb, ne_eqb}
 use Rattle.model.specs.Below.{one_if, all_below}
@@ -75,6 +76,33 @@ module _ {words : List ℕ} {size : ℕ} (b : Beside words size) where
 
   pub beside_long : (k : ℕ) → k < 32 → length (beside words size k) ≡ size
   beside_long k l = length_part words (size * k) size (omega (arith, within k l, b.long))
+
+  -- the chunk behind k of them, and what is left behind it
+  module _ {rest : List ℕ} (rest' block : List ℕ) (k : ℕ) (here : rest ≡ drop (size * k) words) (cut : rest ≡ block ++ rest') (own : length block ≡ size) where
+    pub chunk_beside : block ≡ beside words size k
+    chunk_beside = sym (take-append_seam block rest') ∙ ap₂ (λ (n : ℕ) (xs : List ℕ). take n xs) own (sym cut ∙ here)
+
+    pub chunk_left : rest' ≡ drop (size * (k + 1)) words
+    chunk_left =
+        sym (drop-append_seam block rest') ∙ ap₂ (λ (n : ℕ) (xs : List ℕ). drop n xs) own (sym cut ∙ here)
+        ∙ drop-drop size (size * k) words ∙ ap (λ (n : ℕ). drop n words) (omega (arith, mul-add size k 1))
+
+    pub chunk_inside : k < 32
+    chunk_inside = go (dec_lt k 32)
+      where
+        go : Dec (k < 32) → k < 32
+        go (yes l) = l
+        go (no l) =
+            let past : 32 ≤ k = omega arith in
+            omega (arith, mul-le-mul_left size past, ap length here, ap length cut, length-append block rest', length-drop (size * k) words, b.long, b.some, own)
+
+  -- there is none behind the 32nd
+  pub chunks_end : {rest : List ℕ} {k : ℕ} → rest ≡ drop (size * k) words → length rest < size → k ≤ 32 → k ≡ 32
+  chunks_end {rest} {k} here short most = go (dec_lt k 32)
+    where
+      go : Dec (k < 32) → k ≡ 32
+      go (yes l) = absurd (omega (arith, within k l, ap length here, length-drop (size * k) words, b.long, short))
+      go (no l) = omega arith
 
   -- one header more: `wrong` counts those that are not right
   wrong_step : (i wrong k v : ℕ) → eqb wrong 0 ≡ all_below k (λ k. header_right i (beside words size k))

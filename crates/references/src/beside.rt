@@ -5,18 +5,18 @@
 ghost use Rattle.std.specs.Prelude.{◌≡◌, not, ◌+◌, ◌-◌, ◌<◌, ◌≤◌, length};
 ghost use Rattle.model.specs.Below.{one_if};
 ghost use Rattle.references.specs.Gather.{header_right};
-ghost use Rattle.references.specs.Beside.{Beside, beside, reference_or_none, Fields, FieldsPut, InColumns, Columns, AddingBeside, AddedBeside};
+ghost use Rattle.references.specs.Beside.{reference_or_none, Fields, FieldsPut, InColumns, Columns, AddingBeside, AddedBeside};
 
 use crate::gather::header_right;
 use crate::refs::Refs;
 use words::fields::header_r;
 
-// 1 for a wrong header, 0 for a right one.
+// 1 for a wrong header, 0 for a right one: numbers, as `added_beside`, which docs/STATEMENTS.md names, speaks of them.
 fn is_wrong(block: &[u32], class: u32) -> u32
     requires { 0 < length block.now }
     ensures { (result ≡ one_if (not (header_right class block.now))) × (result ≤ 1) }
 {
-    (!header_right(block, class)) as u32
+    u32::from(!header_right(block, class))
 }
 
 // Reference f of a block, and 0 if it has none.
@@ -30,14 +30,6 @@ fn reference_or_none(block: &[u32], f: usize) -> u32
     } else {
         0
     }
-}
-
-// Block k of 32 that stand side by side.
-fn block_beside(words: &[u32], size: usize, k: usize) -> &[u32]
-    requires { Beside words.now size × (k < 32) }
-    ensures { result.now ≡ beside words.now size k }
-{
-    &words[size * k..size * k + size]
 }
 
 // Puts the references of block k of 32, each at place k of its field's 32 words.
@@ -56,8 +48,7 @@ fn put_columns(words: &[u32], size: usize, class: u32, rest: &mut [u32]) -> u32
     ensures { InColumns class words.now size 32 rest.new result }
 {
     let mut wrong = 0;
-    for k in 0..32 {
-        let block = block_beside(words, size, k);
+    for (k, block) in words.chunks_exact(size).enumerate() {
         put_fields(block, size, k, rest);
         wrong += is_wrong(block, class);
     }

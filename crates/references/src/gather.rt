@@ -51,7 +51,7 @@ fn add_block<'r>(block: &[u32], class: u32, refs: Refs<'r>) -> Option<Refs<'r>>
     Some(refs.put(block, header_r(block[0]) as usize))
 }
 
-// Each gathers some blocks, and gives None where one of their headers is wrong.
+// Those that gather give None where a header is wrong.
 impl<'a> Member<'a> {
     pub fn block(self, k: u32) -> &'a [u32]
         requires { k < blocks self.class }
@@ -82,9 +82,10 @@ impl<'a> Member<'a> {
         ensures { GatheredBelow self.entry.arena.now self.entry.s (32 * j + 32) result }
     {
         if self.class == 3 {
-            return refs.put_beside(self.words_from(32 * j, 64), 2, self.class);
+            refs.put_beside(self.words_from(32 * j, 64), 2, self.class)
+        } else {
+            refs.put_beside(self.words_from(32 * j, 128), 4, self.class)
         }
-        refs.put_beside(self.words_from(32 * j, 128), 4, self.class)
     }
 
     // The blocks of a word's set bits.
@@ -104,10 +105,11 @@ impl<'a> Member<'a> {
         requires { AtWord self.arena.now self.s j w refs }
         ensures { GatheredBelow self.entry.arena.now self.entry.s (32 * j + 32) result }
     {
-        if w == 0xFFFF_FFFF && self.class <= 4 {
-            return self.gather_full(j, refs);
+        if w == u32::MAX && self.class <= 4 {
+            self.gather_full(j, refs)
+        } else {
+            self.gather_bits(j, w, refs)
         }
-        self.gather_bits(j, w, refs)
     }
 
     // All blocks.
@@ -116,9 +118,11 @@ impl<'a> Member<'a> {
         requires none { refs ≡ [] }
         ensures { GatheredBelow self.entry.arena.now self.entry.s (blocks self.entry.class) result }
     {
-        for j in 0..blocks(self.class).div_ceil(32) {
-            let w = self.row[(1 + 64 * self.s + j) as usize];
-            refs = self.gather_word(j, w, refs)?;
+        let row = self.row;
+        let at = 1 + 64 * self.s as usize;
+        let words = blocks(self.class).div_ceil(32) as usize;
+        for (j, &w) in row[at..at + words].iter().enumerate() {
+            refs = self.gather_word(j as u32, w, refs)?;
         }
         Some(refs)
     }

@@ -1,6 +1,5 @@
 // Segment by segment, and block by block.
 ghost use Rattle.std.specs.Prelude.{◌≡◌, ◌<◌, ◌≤◌, length};
-ghost use Rattle.model.specs.Below.{all_below};
 ghost use Rattle.model.specs.Class.{blocks};
 ghost use Rattle.model.specs.View.{r_in};
 ghost use Rattle.model.specs.Sound.{taken_right};

@@ -8,7 +8,7 @@ ghost use Rattle.references.specs.Gather.{Copied, Putting};
 
 use std::marker::Model;
 
-// The first `count` words.
+// The first `count` words. They are lent: an array of its own would be moved with it, 16 KB at each step.
 #[derive(Drop)]
 pub struct Refs<'a> {
     pub words: &'a mut [u32; 4096],

@@ -3,61 +3,46 @@
 use Prim.Native.Nat.{ℕ, zero, suc, ◌+◌, ◌-◌, ◌*◌, ◌/◌, ◌%◌, ◌^◌, ◌≤◌, ◌<◌}
 use mathlib.Core.Path.{◌≡◌, refl, sym, ap, ap₂, ◌∙◌}
 use mathlib.Core.Bool.{Bool, true, false, not, ◌&&◌, ◌||◌, and_comm, and-false}
-use mathlib.Core.Logic.{inl, inr}
 use mathlib.Core.List.{List, ◌++◌}
 use native.Mathlib.Omega.{arith}
-use lib.Dec.{eqb, ltb}
+use lib.Dec.{eqb, ltb, leb}
 use lib.ListN.{length, replicate, length-replicate, get_or-replicate, get_or-eq_default, length-append, get_or-append}
 use native.Mathlib.Decide.{dec_lt}
 use lib.Seq.{get_or-append-add}
 use lib.Bits.{bit_and, bit_or, or_lt, and_lt, or_add_and, and_le_l, and_le_r}
-use lib.Pow.{shr_le}
-use borrow.Author.Tests.{lt-ltb, le-ltb, eq-eqb, ne_eqb, ltb-true, ltb-false}
-use Rattle.model.specs.Below.{count_below, sum_below, all_below as every}
-use Rattle.model.specs.Word.{word, part, bit, ones, word_of_bits}
+use borrow.Author.Tests.{lt-ltb, le-ltb, eq-eqb, ne_eqb, ltb-true, ltb-false, lt-leb, le-leb}
+use Rattle.model.specs.Below.{count_below, sum_below, all_below}
+use Rattle.model.specs.Word.{word, part, bit, ones, word_of_bits, put}
 use Rattle.model.specs.Class.{blocks, words_for}
 use Rattle.model.specs.Layout.{arena_length, record_at, segment_of, index_of}
 use Rattle.model.specs.View.{segments, place_rank, place_index, record_of, class, rank, bit_of}
 use Rattle.model.specs.Standing.{in_pool, is_block, before_place, taken_at, is_taken, none_or_taken, taken_count}
 use Rattle.laws.proofs.Below.{all_below_ext, all_below_add, count_below_ext}
-use Rattle.laws.proofs.Splice.{length_part}
-use Rattle.laws.proofs.Bits.{bit_zero, bit_ones, bit_past, bit_pow, bit_shift, bit_of_and, bit_of_or, bit_word_of_bits, word_of_bits_lt, word_of_bits_ext, word_ext}
+use Rattle.laws.proofs.Splice.{length_part, word_part, length_put, word_put_in, word_put_before, word_put_behind}
+use Rattle.laws.proofs.Bits.{bit_zero, bit_pow, bit_of_and, bit_of_or, bit_word_of_bits, word_of_bits_lt, word_of_bits_ext, word_ext, bit_not}
 use Rattle.words.proofs.OnesLaws.{ones_of_part}
 use Rattle.arena.specs.Rows.{row_bit}
 use Rattle.taken.specs.Row.{asked_bit, TakenRow, row_taken, row_none_or_taken, Limit, row_word, Filled, ZeroRow, Fill, taken_word, Segment, all_words, seen_right}
 
 -- ---- the word of the ones below a limit
 
-pub none_below : (from limit : ℕ) → limit ≤ from → 0 ≡ word_of_bits (λ b. ltb (from + b) limit)
-none_below from limit h =
-    let f : ℕ → Bool = λ b. ltb (from + b) limit in
-    word_ext 0 (word_of_bits f) (omega arith) (word_of_bits_lt f)
-    (λ b l. bit_zero b ∙ sym (bit_word_of_bits f b l ∙ le-ltb (from + b) limit (omega arith)))
-
-pub all_below : (from limit : ℕ) → from + 32 ≤ limit → ones ≡ word_of_bits (λ b. ltb (from + b) limit)
-all_below from limit h =
-    let f : ℕ → Bool = λ b. ltb (from + b) limit in
-    word_ext ones (word_of_bits f) (omega arith) (word_of_bits_lt f)
-    (λ b l. bit_ones b l ∙ sym (bit_word_of_bits f b l ∙ lt-ltb (from + b) limit (omega arith)))
-
-pub some_below : (from limit : ℕ) → from < limit → limit - from < 32
-    → ones / 2 ^ (32 - (limit - from)) ≡ word_of_bits (λ b. ltb (from + b) limit)
-some_below from limit h u =
-    word_ext w (word_of_bits f) (omega (arith, shr_le ones past)) (word_of_bits_lt f)
-    (λ b l. bit_shift ones past b ∙ each b (f b) refl ∙ sym (bit_word_of_bits f b l))
+-- `!ones_from(limit.saturating_sub(from))`
+pub below_is : (from limit : ℕ) → ones - word_of_bits (λ b. leb (limit - from) b) ≡ word_of_bits (λ b. ltb (from + b) limit)
+below_is from limit =
+    word_ext (ones - word_of_bits behind) (word_of_bits f) (omega arith) (word_of_bits_lt f)
+    (λ b l.
+    bit_not (word_of_bits behind) b (word_of_bits_lt behind) l ∙ ap not (bit_word_of_bits behind b l)
+    ∙ each b (f b) refl ∙ sym (bit_word_of_bits f b l))
   where
     f : ℕ → Bool
     f b = ltb (from + b) limit
 
-    past : ℕ
-    past = 32 - (limit - from)
+    behind : ℕ → Bool
+    behind b = leb (limit - from) b
 
-    w : ℕ
-    w = ones / 2 ^ past
-
-    each : (b : ℕ) (t : Bool) → f b ≡ t → bit ones (past + b) ≡ f b
-    each b true e = bit_ones (past + b) (omega (arith, ltb-true (from + b) limit e)) ∙ sym e
-    each b false e = bit_past 32 ones (past + b) (omega arith) (omega (arith, ltb-false (from + b) limit e)) ∙ sym e
+    each : (b : ℕ) (t : Bool) → f b ≡ t → not (behind b) ≡ f b
+    each b true e = ap not (lt-leb (limit - from) b (omega (arith, ltb-true (from + b) limit e))) ∙ sym e
+    each b false e = ap not (le-leb (limit - from) b (omega (arith, ltb-false (from + b) limit e))) ∙ sym e
 
 -- `(below(limit, j) | w) & below(blocks, j)`
 pub taken_word_is : (w limit blocks j : ℕ) → w < 2 ^ 32
@@ -183,35 +168,51 @@ filled_pool {ws} {row} {s} f p = record {
         let there : 64 * s + j ≡ o = omega arith in
         f.filled.behind o past ∙ no_blocks ws s j (omega arith) (λ b _. taken_at_pool ws s (32 * j + b) p) ∙ ap (row_word ws) there
 
+-- the words of any are 64
+pub own_long : {ws row : List ℕ} {s : ℕ} → Fill ws row s → length (part row (1 + 64 * s) (1 + 64 * s + 64 - (1 + 64 * s))) ≡ 64
+own_long {ws} {row} {s} f =
+    let room : 1 + 64 * s + 64 ≤ length row = omega (arith, f.filled.long, f.classed.few, f.there) in
+    omega (arith, length_part row (1 + 64 * s) (1 + 64 * s + 64 - (1 + 64 * s)) (omega (arith, room)))
+
 -- the words of another, as far as it has blocks
-pub filled_step : {ws row row' rec : List ℕ} {s limit n at : ℕ} → Fill ws row s → Segment rec limit n row row' at (words_for n) → at ≡ 1 + 64 * s
-    → n ≡ blocks (class ws s) → n ≤ 2048
-    → ((j : ℕ) → j < 64 → taken_word (word rec (1 + j)) limit n j ≡ row_word ws (64 * s + j)) → Filled ws row' (64 * s + 64)
-filled_step {ws} {row} {row'} {rec} {s} {limit} {n} {at} f g e same few h = record {
-  long = g.long;
-  first = g.others 0 (inl (omega arith)) ∙ f.filled.first;
-  right = λ o l. go o l (ltb o (64 * s)) refl (ltb (o - 64 * s) (words_for n)) refl;
-  behind = λ o l. g.others (1 + o) (inr (omega arith)) ∙ f.filled.behind o (omega arith);
+pub filled_step : {ws row own rec : List ℕ} {s limit n : ℕ} → Fill ws row s → length own ≡ 64
+    → Segment rec limit n (part row (1 + 64 * s) 64) own (words_for n) → n ≡ blocks (class ws s) → n ≤ 2048
+    → ((j : ℕ) → j < 64 → taken_word (word rec (1 + j)) limit n j ≡ row_word ws (64 * s + j)) → Filled ws (put row (1 + 64 * s) own) (64 * s + 64)
+filled_step {ws} {row} {own} {rec} {s} {limit} {n} f long g same few h = record {
+  long = length_put row at own (omega (arith, room, long, f.filled.long)) ∙ f.filled.long;
+  first = word_put_before row at own 0 there (omega arith) ∙ f.filled.first;
+  right = λ o l. go o l (ltb o (64 * s)) refl;
+  behind = λ o l. word_put_behind row at own (1 + o) there (omega (arith, long)) ∙ f.filled.behind o (omega arith);
 }
   where
-    go : (o : ℕ) → o < 64 * s + 64 → (t : Bool) → ltb o (64 * s) ≡ t → (u : Bool) → ltb (o - 64 * s) (words_for n) ≡ u → word row' (1 + o) ≡ row_word ws o
-    go o l true t u w =
+    at : ℕ
+    at = 1 + 64 * s
+
+    room : at + 64 ≤ 8192
+    room = omega (arith, f.classed.few, f.there)
+
+    there : at ≤ length row
+    there = omega (arith, room, f.filled.long)
+
+    here : (j : ℕ) → j < 64 → (t : Bool) → ltb j (words_for n) ≡ t → word own j ≡ row_word ws (64 * s + j)
+    here j l true t = g.words j (ltb-true j (words_for n) t) ∙ h j l
+    here j l false t =
+        let unused : words_for n ≤ j = ltb-false j (words_for n) t in
+        let behind : at + j ≡ 1 + (64 * s + j) = omega arith in
+        g.behind j unused ∙ word_part row at 64 j l ∙ ap (word row) behind ∙ f.filled.behind (64 * s + j) (omega arith)
+        ∙ no_blocks ws s j l (λ b _. taken_at_inside ws s (32 * j + b) (omega (arith, same)))
+
+    go : (o : ℕ) → o < 64 * s + 64 → (t : Bool) → ltb o (64 * s) ≡ t → word (put row at own) (1 + o) ≡ row_word ws o
+    go o l true t =
         let before : o < 64 * s = ltb-true o (64 * s) t in
-        g.others (1 + o) (inl (omega arith)) ∙ f.filled.right o before
-    go o l false t true w =
+        word_put_before row at own (1 + o) there (omega arith) ∙ f.filled.right o before
+    go o l false t =
         let past : 64 * s ≤ o = ltb-false o (64 * s) t in
-        let used : o - 64 * s < words_for n = ltb-true (o - 64 * s) (words_for n) w in
         let j : ℕ = o - 64 * s in
-        let here : at + j ≡ 1 + o = omega arith in
-        let there : 64 * s + j ≡ o = omega arith in
-        ap (word row') (sym here) ∙ g.words j used ∙ h j (omega arith) ∙ ap (row_word ws) there
-    go o l false t false w =
-        let past : 64 * s ≤ o = ltb-false o (64 * s) t in
-        let unused : words_for n ≤ o - 64 * s = ltb-false (o - 64 * s) (words_for n) w in
-        let j : ℕ = o - 64 * s in
-        let there : 64 * s + j ≡ o = omega arith in
-        g.others (1 + o) (inr (omega arith)) ∙ f.filled.behind o past
-        ∙ no_blocks ws s j (omega arith) (λ b _. taken_at_inside ws s (32 * j + b) (omega (arith, same))) ∙ ap (row_word ws) there
+        let same : 1 + o ≡ at + j = omega arith in
+        let back : 64 * s + j ≡ o = omega arith in
+        ap (word (put row at own)) same ∙ word_put_in row at own j there (omega (arith, long)) ∙ here j (omega arith) (ltb j (words_for n)) refl
+        ∙ ap (row_word ws) back
 
 -- the block at position x, which is its handle less 1
 pub is_taken_at : (ws : List ℕ) (x : ℕ) → is_taken ws (x + 1) ≡ taken_at ws (x / 2048) (x % 2048)
@@ -226,7 +227,7 @@ past_not_taken ws x l = is_taken_at ws x ∙ rw (le-ltb (x / 2048) (segments ws)
 some_handle : (ws : List ℕ) (x : ℕ) → none_or_taken ws (x + 1) ≡ is_taken ws (x + 1)
 some_handle ws x = rw (ne_eqb (x + 1) 0 (λ e. omega arith))
 
--- every handle below 262,144 asks its own bit, or one that is 0
+-- all_below handle below 262,144 asks its own bit, or one that is 0
 module _ {ws row : List ℕ} (few : segments ws ≤ 64) (f : Filled ws row (64 * segments ws)) where
   asked_inside : (x : ℕ) → x < 2048 * segments ws → asked_bit row (x + 1) ≡ is_taken ws (x + 1)
   unfolding row_word
@@ -271,7 +272,7 @@ module _ {ws row : List ℕ} (few : segments ws ≤ 64) (f : Filled ws row (64 *
 
 -- ---- asking a row
 
--- the row of an arena tells of every handle whether it is 0 or that of a taken block
+-- the row of an arena tells of all_below handle whether it is 0 or that of a taken block
 pub row_none_or_taken_is : {ws row : List ℕ} → TakenRow ws row → (h : ℕ) → row_none_or_taken row h ≡ none_or_taken ws h
 row_none_or_taken_is {ws} {row} t h = go (ltb h 262144) refl
   where
@@ -323,7 +324,7 @@ or_below a b = go (ltb a 262144) refl (ltb b 262144) refl
 -- the words of two lists
 pub all_words_append : (p : ℕ → Bool) (xs ys : List ℕ) → all_words p (xs ++ ys) ≡ (all_words p xs && all_words p ys)
 all_words_append p xs ys =
-    ap (λ (n : ℕ). every n (λ f. p (word (xs ++ ys) f))) (length-append xs ys)
+    ap (λ (n : ℕ). all_below n (λ f. p (word (xs ++ ys) f))) (length-append xs ys)
     ∙ all_below_add (length xs) (length ys) (λ f. p (word (xs ++ ys) f))
     ∙ ap₂ ◌&&◌
     (all_below_ext (length xs) (λ f. p (word (xs ++ ys) f)) (λ f. p (word xs f)) (λ f l. ap p (get_or-append xs ys 0 f l)))

@@ -1,6 +1,6 @@
 -- The taken row: a row of 8,192 words (crate arena, Rows) in which the bit of handle h is 1 exactly if h is 0 or the handle of a taken block.
 -- Assumes nothing.
-use Rattle.std.specs.Prelude.{ℕ, ◌+◌, ◌*◌, ◌/◌, ◌%◌, ◌≤◌, ◌<◌, ◌≡◌, ◌⊎◌, Bool, not, ◌&&◌, ◌||◌, List, length, eqb, ltb}
+use Rattle.std.specs.Prelude.{ℕ, ◌+◌, ◌*◌, ◌/◌, ◌%◌, ◌≤◌, ◌<◌, ◌≡◌, Bool, not, ◌&&◌, ◌||◌, List, length, eqb, ltb}
 use Rattle.model.specs.Below.{all_below}
 use Rattle.model.specs.Word.{word, bit, word_of_bits}
 use Rattle.model.specs.Class.{blocks}
@@ -86,15 +86,13 @@ pub record Fill (ws row : List ℕ) (s : ℕ) : Type 0 where
 unfoldable pub taken_word : ℕ → ℕ → ℕ → ℕ → ℕ
 taken_word w limit blocks j = word_of_bits (λ b. (ltb (32 * j + b) limit || bit w b) && ltb (32 * j + b) blocks)
 
-pub record Words (rec row : List ℕ) (blocks at : ℕ) : Type 0 where
+-- asked for a segment's own words of a row
+pub record Words (rec own : List ℕ) (blocks : ℕ) : Type 0 where
   pub record_long : length rec ≡ 68
-  pub long : length row ≡ 8192
-  pub some : 1 ≤ at
-  pub room : at + 64 ≤ 8192
+  pub long : length own ≡ 64
   pub most : blocks ≤ 2048
 
--- row' is the row with the first `end` of those words from `at` on, and the words before and behind them as they were
-pub record Segment (rec : List ℕ) (limit blocks : ℕ) (row row' : List ℕ) (at end : ℕ) : Type 0 where
-  pub long : length row' ≡ 8192
-  pub others : (o : ℕ) → (o < at) ⊎ (at + end ≤ o) → word row' o ≡ word row o
-  pub words : (j : ℕ) → j < end → word row' (at + j) ≡ taken_word (word rec (1 + j)) limit blocks j
+-- the first `end` of them are those words, and those behind are as they were
+pub record Segment (rec : List ℕ) (limit blocks : ℕ) (own own' : List ℕ) (end : ℕ) : Type 0 where
+  pub words : (j : ℕ) → j < end → word own' j ≡ taken_word (word rec (1 + j)) limit blocks j
+  pub behind : (o : ℕ) → end ≤ o → word own' o ≡ word own o

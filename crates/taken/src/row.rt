@@ -11,6 +11,7 @@ ghost use Rattle.taken.specs.Row.{TakenRow, Member, Limit, Filled, ZeroRow, Blan
 
 use arena::{class, place_of, rank, record_of, segments};
 use std::cmp::Ordering;
+use words::bits::ones_from;
 use words::class::blocks;
 use words::fields::{place_index, place_rank};
 
@@ -19,11 +20,7 @@ fn below(limit: u32, j: u32) -> u32
     requires { j < 64 }
     ensures { result ≡ word_of_bits (λ b. ltb (32 * j + b) limit) }
 {
-    match limit.saturating_sub(32 * j) {
-        0 => 0,
-        left @ 1..=31 => 0xFFFF_FFFF >> (32 - left),
-        _ => 0xFFFF_FFFF,
-    }
+    !ones_from(limit.saturating_sub(32 * j))
 }
 
 // Word j of a segment, from its level-0 word.
@@ -47,15 +44,14 @@ fn limit_of(arena: &[u32], s: u32, class: u32) -> u32
     }
 }
 
-// The words of a segment with such a record and so many blocks.
-fn fill_words(rec: &[u32], limit: u32, blocks: u32, row: &mut [u32; 8192], at: usize)
-    requires { Words rec.now row.old blocks at }
-    ensures { Segment rec.now limit blocks row.old row.new at (words_for blocks) }
+// The 64 words of a segment with such a record and so many blocks.
+fn fill_words(rec: &[u32], limit: u32, blocks: u32, own: &mut [u32])
+    requires { Words rec.now own.old blocks }
+    ensures { Segment rec.now limit blocks own.old own.new (words_for blocks) }
 {
     let words = blocks.div_ceil(32);
-    for j in 0..words {
-        let o = j as usize;
-        row[at + o] = taken_word(rec[1 + o], limit, blocks, j);
+    for (j, out) in own[..words as usize].iter_mut().enumerate() {
+        *out = taken_word(rec[1 + j], limit, blocks, j as u32);
     }
 }
 
@@ -70,7 +66,12 @@ fn fill_segment(arena: &[u32], s: u32, row: &mut [u32; 8192])
     }
     let rec = record_of(arena, s);
     let at = 1 + 64 * s as usize;
-    fill_words(rec, limit_of(arena, s, class), blocks(class), row, at);
+    fill_words(
+        rec,
+        limit_of(arena, s, class),
+        blocks(class),
+        &mut row[at..at + 64],
+    );
 }
 
 // A row in which no block is taken, but handle 0 has its bit.

@@ -1,19 +1,20 @@
 -- `taken::row::fill_segment` meets its contract: a segment in the pool has no taken block, and one of a class those of its limit and its bits.
 -- Assumes nothing.
-use Prim.Native.Nat.{ℕ, ◌+◌, ◌≤◌}
+use Prim.Native.Nat.{ℕ, ◌+◌, ◌-◌, ◌*◌, ◌≤◌}
 use native.Mathlib.Omega.{arith}
-use mathlib.Core.Path.{◌≡◌, refl, ap, ap₂, ◌∙◌, sym}
+use mathlib.Core.Path.{◌≡◌, ap, ap₂, subst, ◌∙◌, sym}
 use mathlib.Core.Bool.{true, false}
 use mathlib.Core.List.{List}
 use lib.ListN.{length}
 use borrow.Author.Tests.{eq-eqb, ne_eqb}
-use Rattle.model.specs.Word.{word}
-use Rattle.model.specs.Class.{is_class, blocks}
+use Rattle.model.specs.Word.{word, part}
+use Rattle.model.specs.Class.{is_class, blocks, words_for}
 use Rattle.model.specs.View.{class}
 use Rattle.model.specs.Standing.{in_pool}
+use Rattle.laws.proofs.Splice.{put_mid_is}
 use Rattle.words.proofs.ClassLaws.{blocks_most}
-use Rattle.taken.specs.Row.{taken_word}
-use Rattle.taken.proofs.RowLaws.{record_long, filled_pool, member_word, filled_step}
+use Rattle.taken.specs.Row.{taken_word, Filled, Segment}
+use Rattle.taken.proofs.RowLaws.{record_long, own_long, filled_pool, member_word, filled_step}
 use Rattle.taken.proofs.row.fill_segment.Goals as goal
 use Rattle.taken.proofs.row.fill_segment.Goals.{Else-class-eq0}
 
@@ -36,9 +37,7 @@ fill_words-requires c =
     let p = c.requires in
     record {
       record_long = ap length c.record_of-rec.ensures ∙ record_long a.arena.now a.s p.classed.long p.there;
-      long = p.filled.long;
-      some = omega arith;
-      room = omega (arith, p.classed.few, p.there);
+      long = own_long p;
       most = omega (arith, c.blocks-2.ensures, ap blocks c.class-class.ensures, few (goal.at.fill_words-requires c).Else-class-eq0);
     }
 
@@ -49,7 +48,14 @@ returns c =
     let same = c.class-class.ensures in
     let limit = c.limit_of in
     let all = c.blocks-2.ensures ∙ ap blocks same in
-    filled_step p c.fill_words.ensures refl all (omega (arith, all, few (goal.at.returns c).Else-class-eq0))
+    let row = a.row.now in
+    let own = c.fill_words.new.own in
+    let at : ℕ = 1 + 64 * a.s in
+    let size : at + 64 - at ≡ 64 = omega arith in
+    let long : length own ≡ 64 = omega (arith, c.fill_words.auto.own, own_long p) in
+    subst (λ (xs : List ℕ). Filled a.arena.now xs (64 * a.s + 64)) (sym (put_mid_is at (at + 64 - at) row own (long ∙ sym size)))
+    (filled_step p long (subst (λ (n : ℕ). Segment c.record_of-rec.result.now limit.result c.blocks-2.result (part row at n) own (words_for c.blocks-2.result)) size c.fill_words.ensures)
+    all (omega (arith, all, few (goal.at.returns c).Else-class-eq0))
     (λ j l.
     ap₂ (λ (rec : List ℕ) (n : ℕ). taken_word (word rec (1 + j)) limit.result n j) c.record_of-rec.ensures all
-    ∙ member_word a.arena.now a.s limit.result j p.there (used (goal.at.returns c).Else-class-eq0) limit.ensures l)
+    ∙ member_word a.arena.now a.s limit.result j p.there (used (goal.at.returns c).Else-class-eq0) limit.ensures l))

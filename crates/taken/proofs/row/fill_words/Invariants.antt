@@ -6,4 +6,4 @@ use Rattle.taken.specs.Row.{Segment}
 use Rattle.taken.proofs.row.fill_words.Given as goal
 
 abbrev pub invariant-loop-j : goal.invariant-loop-j
-invariant-loop-j l = (l.words ≡ words_for l.blocks) × Segment l.rec l.limit l.blocks l.initial.row l.row l.at l.j
+invariant-loop-j l = (l.words ≡ words_for l.blocks) × Segment l.rec l.limit l.blocks l.initial.out-items l.out-items l.j

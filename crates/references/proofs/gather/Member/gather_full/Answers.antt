@@ -34,16 +34,16 @@ put_beside-requires c =
 pub returns-then-self-eq3 : goal.returns-then-self-eq3
 returns-then-self-eq3 c = full_gathered c.args.self.of c.requires c.put_beside.result (sym (two (goal.at.returns-then-self-eq3 c).Then-self-eq3)) c.words_from.ensures c.put_beside.ensures
 
-pub put_beside-requires-2 : goal.put_beside-requires-2
-put_beside-requires-2 c =
+pub put_beside-requires-else-self-eq3 : goal.put_beside-requires-else-self-eq3
+put_beside-requires-else-self-eq3 c =
     let p = c.requires in
     let m = c.args.self in
-    let own = four (goal.at.put_beside-requires-2 c).Else-self-eq3 in
+    let own = four (goal.at.put_beside-requires-else-self-eq3 c).Else-self-eq3 in
     record {
-      beside = record { some = omega arith; few = omega arith; long = ap length c.words_from-2.ensures ∙ length_part m.arena.now (block_at m.n m.s m.class (32 * c.args.j)) 128 (omega (arith, full_within m.of p, own)) };
+      beside = record { some = omega arith; few = omega arith; long = ap length c.words_from-else-self-eq3.ensures ∙ length_part m.arena.now (block_at m.n m.s m.class (32 * c.args.j)) 128 (omega (arith, full_within m.of p, own)) };
       own = own;
       room = omega (arith, full_room m.of p, own);
     }
 
-pub returns : goal.returns
-returns c = full_gathered c.args.self.of c.requires c.put_beside-2.result (sym (four (goal.at.returns c).Else-self-eq3)) c.words_from-2.ensures c.put_beside-2.ensures
+pub returns-else-self-eq3 : goal.returns-else-self-eq3
+returns-else-self-eq3 c = full_gathered c.args.self.of c.requires c.put_beside-else-self-eq3.result (sym (four (goal.at.returns-else-self-eq3 c).Else-self-eq3)) c.words_from-else-self-eq3.ensures c.put_beside-else-self-eq3.ensures
