@@ -18,15 +18,12 @@ impl Group {
         requires { class < 16 }
         ensures { number result ≡ group_of class live }
     {
-        if class == 0 {
-            return Group::Pool;
+        if class == 0 || live == 0 {
+            Group::Pool
+        } else if live == blocks(class) {
+            Group::Full
+        } else {
+            Group::Rest
         }
-        if live == 0 {
-            return Group::Pool;
-        }
-        if live == blocks(class) {
-            return Group::Full;
-        }
-        Group::Rest
     }
 }
