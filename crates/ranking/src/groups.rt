@@ -14,6 +14,7 @@ pub enum Group {
 
 impl Group {
     // The group of a segment of that class with so many marked blocks.
+    #[tactic(auto, unfolding(crate::specs::Groups::group_of))]
     pub fn of(class: u32, live: u32) -> Group
         requires { class < 16 }
         ensures { number result ≡ group_of class live }
