@@ -14,19 +14,17 @@ pub enum Group {
 
 impl Group {
     // The group of a segment of that class with so many marked blocks.
+    #[tactic(auto, unfolding(crate::specs::Groups::group_of))]
     pub fn of(class: u32, live: u32) -> Group
         requires { class < 16 }
         ensures { number result ≡ group_of class live }
     {
-        if class == 0 {
-            return Group::Pool;
+        if class == 0 || live == 0 {
+            Group::Pool
+        } else if live == blocks(class) {
+            Group::Full
+        } else {
+            Group::Rest
         }
-        if live == 0 {
-            return Group::Pool;
-        }
-        if live == blocks(class) {
-            return Group::Full;
-        }
-        Group::Rest
     }
 }

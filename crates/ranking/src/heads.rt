@@ -4,6 +4,7 @@ ghost use Rattle.ranking.specs.Heads.{rank_by, head_by, HeadOf, HeadsOf, Heads};
 
 use crate::groups::Group;
 use crate::keys::{SegmentKeys, key, key_class, key_group, keys_in};
+use crate::rows::by_segment;
 use words::fields::record_head;
 
 impl SegmentKeys {
@@ -33,10 +34,6 @@ impl SegmentKeys {
         requires { HeadsOf self.now.keys lives.now self.now.n }
         ensures { Heads self.now.keys lives.now self.now.n result }
     {
-        let mut heads = [0; 64];
-        for s in 0..self.n {
-            heads[s as usize] = self.new_head(lives, s);
-        }
-        heads
+        by_segment(self.n, |s| self.new_head(lives, s))
     }
 }

@@ -11,6 +11,7 @@ ghost use Rattle.ranking.specs.Groups.{group_of, number};
 ghost use Rattle.ranking.specs.Keys.{Whole, key_of, Keys, keys_in};
 
 use crate::groups::Group;
+use crate::rows::by_segment;
 use arena::{class, rank, segments};
 
 pub fn key(class: u32, group: Group, rank: u32) -> u32
@@ -58,10 +59,7 @@ impl SegmentKeys {
         ensures keys { Keys arena.now lives.now result.keys }
     {
         let n = segments(arena);
-        let mut keys = [0; 64];
-        for s in 0..n {
-            keys[s as usize] = key_of(arena, lives, s);
-        }
+        let keys = by_segment(n, |s| key_of(arena, lives, s));
         SegmentKeys { n, keys }
     }
 }
@@ -74,6 +72,6 @@ pub fn keys_in(keys: &[u32; 64], n: u32, from: u32, to: u32) -> u32
 {
     keys[..n as usize]
         .iter()
-        .map(|&key| (from <= key && key < to) as u32)
+        .map(|&key| u32::from(from <= key && key < to))
         .sum()
 }

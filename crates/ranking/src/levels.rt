@@ -45,7 +45,8 @@ pub fn write_levels(rec: &mut [u32], class: u32, marks: &[u32])
     ensures { rec.new ≡ word rec.old 0 ∷ level_rows class (mark_in marks.now) }
 {
     unset(rec, class);
-    for j in 0..blocks(class).div_ceil(32) {
-        put_word(rec, class, j, marks[j as usize]);
+    let words = blocks(class).div_ceil(32) as usize;
+    for (j, &w) in marks[..words].iter().enumerate() {
+        put_word(rec, class, j as u32, w);
     }
 }

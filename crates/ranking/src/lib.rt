@@ -26,6 +26,7 @@ pub mod levels;
 pub mod live;
 pub mod places;
 pub mod records;
+mod rows;
 
 // The marks are those of a trace: of taken blocks alone. New ranks come from the former ones, so they are all
 // computed before any is written.

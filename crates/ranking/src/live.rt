@@ -2,6 +2,7 @@
 ghost use Rattle.std.specs.Prelude.{◌≡◌, ◌≤◌};
 ghost use Rattle.ranking.specs.Live.{RowOf, Row, live_in, Live};
 
+use crate::rows::by_segment;
 use words::bits::ones_in;
 
 // The marks of a segment are 64 words; behind its blocks none is set.
@@ -18,9 +19,5 @@ pub fn count(marks: &[u32], n: u32) -> [u32; 64]
     requires { Row marks.now n }
     ensures { Live marks.now n result }
 {
-    let mut lives = [0; 64];
-    for s in 0..n {
-        lives[s as usize] = live_in(marks, s);
-    }
-    lives
+    by_segment(n, |s| live_in(marks, s))
 }

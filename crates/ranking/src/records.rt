@@ -24,12 +24,12 @@ fn marked_record(rec: &mut [u32], head: u32, marks: &[u32])
     }
 }
 
-fn write_record(arena: &mut [u32], s: u32, head: u32, marks: &[u32])
+fn write_record(arena: &mut [u32], s: usize, head: u32, marks: &[u32])
     requires { WriteRecord arena.old s head marks.now }
     ensures { arena.new ≡ put arena.old (record_at s) (marked_record head (marks_of marks.now s)) }
 {
-    let at = 11 + 68 * s as usize;
-    let from = 1 + 64 * s as usize;
+    let at = 11 + 68 * s;
+    let from = 1 + 64 * s;
     marked_record(&mut arena[at..at + 68], head, &marks[from..from + 64]);
 }
 
@@ -37,7 +37,8 @@ pub fn write_records(arena: &mut [u32], heads: &[u32; 64], marks: &[u32])
     requires { WriteRecords arena.old heads.now marks.now }
     ensures { arena.new ≡ with_records arena.old (segments arena.old) (λ s. marked_record (word heads.now s) (marks_of marks.now s)) }
 {
-    for s in 0..segments(arena) {
-        write_record(arena, s, heads[s as usize], marks);
+    let n = segments(arena) as usize;
+    for (s, &head) in heads[..n].iter().enumerate() {
+        write_record(arena, s, head, marks);
     }
 }

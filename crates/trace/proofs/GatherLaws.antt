@@ -1,19 +1,19 @@
 -- Gathering: copies of words, and the references of a taken block.
 -- Assumes nothing.
 use Prim.Native.Nat.{ℕ, suc, ◌+◌, ◌-◌, ◌/◌, ◌^◌, ◌≤◌, ◌<◌}
-use mathlib.Core.Path.{◌≡◌, refl, sym, ap, ap₂, ◌∙◌, subst}
+use mathlib.Core.Path.{◌≡◌, refl, sym, ap, ◌∙◌, subst}
 use mathlib.Core.Logic.{◌≢◌}
 use mathlib.Core.Bool.{Bool, true, not}
-use mathlib.Core.List.{List, ◌++◌, append_assoc, append-nil}
-use native.Mathlib.Nat.{add-zero, add-suc, mod-eq_of_lt, mul-div_cancel}
+use mathlib.Core.List.{List, ◌++◌}
+use native.Mathlib.Nat.{mod-eq_of_lt, mul-div_cancel}
 use native.Mathlib.Omega.{arith}
 use native.Mathlib.Decide.{dec_le}
 use native.Mathlib.Numerals.{add-one}
 use lib.Bits.{bit_and, and_mask}
 use lib.Pow.{pow-add}
 use lib.Dec.{eqb}
-use lib.ListN.{length, get_or, take, drop, set, length-append, length-drop}
-use lib.Seq.{length-take-le, take_at, take-set-le, take-suc-set, ext_get_or}
+use lib.ListN.{length, get_or, take, drop, set, length-drop}
+use lib.Seq.{length-take-le, take-append-add, take-append-le, take_at, take-set-le, take-suc-set, ext_get_or}
 use borrow.Author.Tests.{eqb-false, not-true}
 use Rattle.model.specs.Below.{words_below, lists_below}
 use Rattle.model.specs.Word.{word, part, put}
@@ -28,7 +28,7 @@ use Rattle.words.proofs.ClassLaws.{class_bounds, class_high, class_room, block_l
 use Rattle.arena.specs.Inside.{Segment, Block}
 use Rattle.soundness.proofs.Tests.{and_left, and_right}
 use Rattle.soundness.proofs.Facts.{sound_facts, taken_block, block_length}
-use Rattle.trace.specs.Gather.{Masked, Behind, First, references_of, references_of_all}
+use Rattle.trace.specs.Gather.{Masked, Begins, First, references_of, references_of_all}
 
 -- ---- a copy
 
@@ -45,58 +45,59 @@ part_words ws o n h =
     ext_get_or 0 (part ws o n) (words_below n f) (length_part ws o n h ∙ sym (length_words_below n f))
     (λ k l. let u : k < n = omega (arith, length_part ws o n h) in word_part ws o n k u ∙ sym (word_words_below n f k u))
 
--- the words that were copied, behind what stood before them
-pub copied : (block row : List ℕ) (end r : ℕ) (row' : List ℕ) → r < length block → end ≤ length row →
-    row' ≡ put row end (take (1 + r - 1) (drop 1 block)) → Behind (words_below r (reference_in block)) row end (end + r) row'
-copied block row end r row' h l e =
+-- the words that were copied, before what stands behind them
+pub copied : (block row part : List ℕ) (r : ℕ) → r < length block → part ≡ take (1 + r - 1) (drop 1 block) → Begins (words_below r (reference_in block)) r (part ++ row)
+copied block row part r h e =
     let f : ℕ → ℕ = reference_in block in
     let size : 1 + r - 1 ≡ r = omega arith in
-    let words : take (1 + r - 1) (drop 1 block) ≡ words_below r f = ap (λ (n : ℕ). take n (drop 1 block)) size ∙ part_words block 1 r (omega arith) in
+    let words : part ≡ words_below r f = e ∙ ap (λ (n : ℕ). take n (drop 1 block)) size ∙ part_words block 1 r (omega arith) in
     record {
-      count = rw (length_words_below r f);
-      words = rw (e, words, ← append_assoc) (take_at (take end row ++ words_below r f) _ (end + r)
-          (length-append (take end row) (words_below r f) ∙ ap₂ ◌+◌ (length-take-le end row l) (length_words_below r f)));
+      count = sym (length_words_below r f);
+      words = rw words (take_at (words_below r f) row r (length_words_below r f));
     }
 
 -- ---- the first references, one by one
 
-pub first_none : (block row : List ℕ) (end : ℕ) → First block row end 0 row
+pub first_none : (block row : List ℕ) → First block 0 row
 unfolding lists_below
-first_none block row end r l u =
+first_none block row r l u =
     let e : r ≡ 0 = omega arith in
-    rw e (record { count = refl; words = rw (add-zero, append-nil) })
+    rw e (record { count = refl; words = refl })
 
-pub first_more : (block row : List ℕ) (end n : ℕ) (row' : List ℕ) (v : ℕ) → end + n < length row' → (1 + n < length block → v ≡ word block (1 + n)) →
-    First block row end n row' → First block row end (n + 1) (set row' (end + n) v)
+pub first_more : (block : List ℕ) (n : ℕ) (row : List ℕ) (v : ℕ) → n < length row → (1 + n < length block → v ≡ word block (1 + n)) →
+    First block n row → First block (n + 1) (set row n v)
 unfolding lists_below
-first_more block row end n row' v l is_v before r u w = go (dec_le r n)
+first_more block n row v l is_v before r u w = go (dec_le r n)
   where
     f : ℕ → ℕ
     f = reference_in block
 
-    go : Dec (r ≤ n) → Behind (words_below r f) row end (end + r) (set row' (end + n) v)
-    go (yes a) = record { count = (before r a w).count; words = take-set-le (end + r) row' (end + n) v (omega arith) ∙ (before r a w).words }
+    go : Dec (r ≤ n) → Begins (words_below r f) r (set row n v)
+    go (yes a) = record { count = (before r a w).count; words = take-set-le r row n v (omega arith) ∙ (before r a w).words }
     go (no a) =
         let last : r ≡ suc n = omega arith in
         let b = before n (omega arith) (omega arith) in
-        subst (λ (k : ℕ). Behind (words_below k f) row end (end + k) (set row' (end + n) v)) (sym last) (record {
-          count = rw (length_words_below (suc n) f);
-          words =
-              rw (add-suc end n, take-suc-set row' (end + n) v l, b.words, append_assoc, is_v (omega arith));
+        subst (λ (k : ℕ). Begins (words_below k f) k (set row n v)) (sym last) (record {
+          count = sym (length_words_below (suc n) f);
+          words = rw (take-suc-set row n v l, b.words, is_v (omega arith));
         })
 
 -- the first r are all of them
-pub all_references : (block row : List ℕ) (end r : ℕ) (row' : List ℕ) → r ≡ r_in block → Behind (words_below r (reference_in block)) row end (end + r) row' →
-    Behind (words_below (r_in block) (reference_in block)) row end (end + r) row'
-all_references block row end r row' e b = subst (λ (n : ℕ). Behind (words_below n (reference_in block)) row end (end + r) row') e b
+pub all_references : (block : List ℕ) (r : ℕ) (row : List ℕ) → r ≡ r_in block → Begins (words_below r (reference_in block)) r row →
+    Begins (words_below (r_in block) (reference_in block)) r row
+all_references block r row e b = subst (λ (n : ℕ). Begins (words_below n (reference_in block)) r row) e b
 
 -- ---- a run
 
 -- one block more
-pub one_more : (ws queue : List ℕ) (n end end' : ℕ) (row row' : List ℕ) → take end row ≡ references_of_all ws queue n →
-    Behind (references_of ws (get_or queue n 0)) row end end' row' → take end' row' ≡ references_of_all ws queue (n + 1)
+pub one_more : (ws queue : List ℕ) (n end count : ℕ) (row rest behind : List ℕ) → end ≤ length row → count ≤ length rest →
+    take end row ≡ references_of_all ws queue n → Begins (references_of ws (get_or queue n 0)) count rest →
+    take (end + count) (take end row ++ (rest ++ behind)) ≡ references_of_all ws queue (n + 1)
 unfolding lists_below
-one_more ws queue n end end' row row' e b = rw (add-one, b.words, e)
+one_more ws queue n end count row rest behind l u e b =
+    let whole : take (end + count) (take end row ++ (rest ++ behind)) ≡ take end row ++ take count (rest ++ behind) =
+    ap (λ (k : ℕ). take (k + count) (take end row ++ (rest ++ behind))) (sym (length-take-le end row l)) ∙ take-append-add (take end row) (rest ++ behind) count in
+    rw (add-one, whole, take-append-le count rest behind u, b.words, e)
 
 -- ---- a taken block
 

@@ -1,6 +1,6 @@
 -- Gathering: the references of a run of blocks, end to end in a row.
 -- Assumes nothing.
-use Rattle.std.specs.Prelude.{ℕ, ◌+◌, ◌-◌, ◌<◌, ◌≤◌, ◌≡◌, true, List, ◌++◌, length, get_or, take}
+use Rattle.std.specs.Prelude.{ℕ, ◌-◌, ◌<◌, ◌≤◌, ◌≡◌, true, List, length, get_or, take}
 use Rattle.std.specs.Int.Bits.{bit_and}
 use Rattle.model.specs.Below.{words_below, lists_below}
 use Rattle.model.specs.View.{segments, block, r_in, reference_in}
@@ -14,21 +14,21 @@ pub record Masked (block : List ℕ) : Type 0 where
   pub some : 0 < length block
   pub kept : (o : ℕ) → o < length block → bit_and o (length block - 1) ≡ o
 
--- there is room behind the first `end` words of a row for a block's references, and for eight words
-pub record Room (block row : List ℕ) (end : ℕ) : Type 0 where
+-- there is room in a row for a block's references, and for eight words
+pub record Room (block row : List ℕ) : Type 0 where
   pub masked : Masked block
   pub within : r_in block < length block
-  pub room : end + r_in block ≤ length row
-  pub eight : end + 8 ≤ length row
+  pub room : r_in block ≤ length row
+  pub eight : 8 ≤ length row
 
--- references stand in a row behind its first `end` words, up to `end'`
-pub record Behind (references row : List ℕ) (end end' : ℕ) (row' : List ℕ) : Type 0 where
-  pub count : end' ≡ end + length references
-  pub words : take end' row' ≡ take end row ++ references
+-- a row begins with references, so many
+pub record Begins (references : List ℕ) (n : ℕ) (row : List ℕ) : Type 0 where
+  pub count : n ≡ length references
+  pub words : take n row ≡ references
 
--- of a block's references the first r do, for any r up to n
-abbrev pub First : List ℕ → List ℕ → ℕ → ℕ → List ℕ → Type 0
-First block row end n row' = (r : ℕ) → r ≤ n → r < length block → Behind (words_below r (reference_in block)) row end (end + r) row'
+-- with the first r of a block's references it does, for any r up to n
+abbrev pub First : List ℕ → ℕ → List ℕ → Type 0
+First block n row = (r : ℕ) → r ≤ n → r < length block → Begins (words_below r (reference_in block)) r row
 
 -- the references of the block of a handle, in turn
 abbrev pub references_of : List ℕ → ℕ → List ℕ

@@ -2,7 +2,7 @@
 ghost use Rattle.std.specs.Prelude.{◌≡◌, ◌+◌, ◌<◌, ◌≤◌, length};
 ghost use Rattle.model.specs.Below.{words_below};
 ghost use Rattle.model.specs.View.{r_in, reference_in};
-ghost use Rattle.trace.specs.Gather.{references_of, Masked, Taken, Room, Behind, First, Queued, Gathered};
+ghost use Rattle.trace.specs.Gather.{references_of, Masked, Taken, Room, Begins, First, Queued, Gathered};
 
 use arena::{block_of, class};
 use model::Handle;
@@ -19,43 +19,42 @@ fn reference(block: &[u32], f: usize) -> u32
     block[(1 + f) & mask]
 }
 
-// Copies a block's first n references behind the first `end` words of a row, and where it has fewer, something
-// else behind them.
-fn first(block: &[u32], row: &mut [u32], end: usize, n: usize)
-    requires { Masked block.now × (n ≤ 8) × (end + n ≤ length row.old) }
-    ensures { First block.now row.old end n row.new }
+// Copies a block's first n references to where a row begins, and where it has fewer, something else behind them.
+fn first(block: &[u32], row: &mut [u32], n: usize)
+    requires { Masked block.now × (n ≤ 8) × (n ≤ length row.old) }
+    ensures { First block.now n row.new }
 {
     for f in 0..n {
-        row[end + f] = reference(block, f);
+        row[f] = reference(block, f);
     }
 }
 
-// Copies a block's references behind the first `end` words of a row, and says where they end. Most blocks
-// have few: for them four or eight at once spare a loop whose length cannot be foretold.
-fn references(block: &[u32], row: &mut [u32], end: usize) -> usize
-    requires { Room block.now row.old end }
-    ensures { Behind (words_below (r_in block.now) (reference_in block.now)) row.old end result row.new }
+// Copies a block's references to where a row begins, and says how many they are. Most blocks have few: for them
+// four or eight at once spare a loop whose length cannot be foretold.
+fn references(block: &[u32], row: &mut [u32]) -> usize
+    requires { Room block.now row.old }
+    ensures { Begins (words_below (r_in block.now) (reference_in block.now)) result row.new }
 {
     let r = header_r(block[0]) as usize;
     if r <= 4 {
-        first(block, row, end, 4);
+        first(block, row, 4);
     } else if r <= 8 {
-        first(block, row, end, 8);
+        first(block, row, 8);
     } else {
-        row[end..end + r].copy_from_slice(&block[1..1 + r]);
+        row[..r].copy_from_slice(&block[1..1 + r]);
     }
-    end + r
+    r
 }
 
 // The same of the block of a handle: its own words, cut from the middle of the arena. No block has more
 // than 1,023 references.
-fn gather_block(arena: &[u32], n: u32, h: u32, row: &mut [u32], end: usize) -> usize
-    requires { Taken arena.now n h × (end + 1023 ≤ length row.old) }
-    ensures { Behind (references_of arena.now h) row.old end result row.new × (result ≤ end + 1023) }
+fn gather_block(arena: &[u32], n: u32, h: u32, row: &mut [u32]) -> usize
+    requires { Taken arena.now n h × (1023 ≤ length row.old) }
+    ensures { Begins (references_of arena.now h) result row.new × (result ≤ 1023) }
 {
     let s = segment(Handle(h));
     let i = class(arena, s);
-    references(block_of(arena, n, s, i, index(Handle(h))), row, end)
+    references(block_of(arena, n, s, i, index(Handle(h))), row)
 }
 
 // How many blocks were taken off a queue, and where their references end in the row.
@@ -73,10 +72,11 @@ pub fn gather(arena: &[u32], n: u32, queue: &[u32], row: &mut [u32]) -> Run
 {
     let mut end = 0;
     for (blocks, &h) in queue.iter().enumerate() {
-        if row.len() < end + 1023 {
+        let rest = &mut row[end..];
+        if rest.len() < 1023 {
             return Run { blocks, end };
         }
-        end = gather_block(arena, n, h, row, end);
+        end += gather_block(arena, n, h, rest);
     }
     Run {
         blocks: queue.len(),

@@ -1,5 +1,5 @@
 // The list of a trace: handles are put on its end, each block once, and a block is marked when it is put on.
-ghost use Rattle.std.specs.Prelude.{◌≡◌, [], ◌<◌, length, get_or};
+ghost use Rattle.std.specs.Prelude.{[]};
 ghost use Rattle.ways.proofs.Put.{put_all};
 ghost use Rattle.trace.specs.List.{On, Root, PutRoot, Roots, Handles, Kept};
 
@@ -41,7 +41,7 @@ pub fn keep_new(row: &mut [u32], end: usize, marks: &mut [u32]) -> usize
     for k in 0..end {
         let h = row[k];
         row[kept] = h;
-        kept += mark(marks, h) as usize;
+        kept += usize::from(mark(marks, h));
     }
     kept
 }

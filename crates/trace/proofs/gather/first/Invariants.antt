@@ -3,4 +3,4 @@ use Rattle.trace.specs.Gather.{First}
 use Rattle.trace.proofs.gather.first.Given as goal
 
 abbrev pub invariant-loop-f : goal.invariant-loop-f
-invariant-loop-f l = First l.block l.initial.row l.end l.f l.row
+invariant-loop-f l = First l.block l.f l.row

@@ -4,7 +4,7 @@ use mathlib.Core.Path.{◌≡◌}
 use native.Mathlib.Omega.{arith}
 use Rattle.model.specs.View.{block, r_in, reference_in}
 use Rattle.laws.proofs.Below.{length_words_below}
-use Rattle.trace.specs.Gather.{Behind, references_of}
+use Rattle.trace.specs.Gather.{Begins, references_of}
 use Rattle.trace.proofs.GatherLaws.{taken_inside, block_is}
 use Rattle.trace.proofs.gather.gather_block.Goals as goal
 use Rattle.trace.proofs.gather.gather_block.Goals.{After-block_of}
@@ -48,6 +48,6 @@ pub returns : goal.returns
 returns c =
     let ws = c.args.arena.now in
     let inside = taken_inside ws c.args.h c.requires.0.right c.requires.0.taken in
-    let behind : Behind (references_of ws c.args.h) c.args.row.now c.args.end c.references.result c.references.new.row
+    let begins : Begins (references_of ws c.args.h) c.references.result c.references.new.row
     = rw (the_block (goal.at.returns c).After-block_of) at c.references.ensures in
-    (behind, omega (arith, behind.count, inside.most, length_words_below (r_in (block ws c.args.h)) (reference_in (block ws c.args.h))))
+    (begins, omega (arith, begins.count, inside.most, length_words_below (r_in (block ws c.args.h)) (reference_in (block ws c.args.h))))

@@ -16,6 +16,6 @@ loop-k-preserved c =
     let l = c.loop-k in
     let h = get_or l.row l.k 0 in (
       λ j v. get_or-set_other l.row l.kept j h 0 (omega (arith, l.invariant.1.within)) ∙ l.invariant.0 j (omega arith),
-      kept_more a.row.now l.k a.marks.now l.kept l.row l.marks h c.mark.result c.mark.new.marks l.invariant.1 (omega arith)
-          (omega (arith, l.invariant.1.within)) (l.invariant.0 l.k (le_refl l.k)) c.mark.ensures,
+      rw c.from-kept.ensures (kept_more a.row.now l.k a.marks.now l.kept l.row l.marks h c.mark.result c.mark.new.marks l.invariant.1 (omega arith)
+          (omega (arith, l.invariant.1.within)) (l.invariant.0 l.k (le_refl l.k)) c.mark.ensures),
     )
