@@ -1,4 +1,5 @@
-// The hand program again, on bad lines of every sort: a crate has one input and one output that it is held to (crate store has document 01's run).
+// The hand program again, on bad lines of every sort: a crate has one input and one output that it is held to
+// (crate store has document 01's run), and one main for both would be no shorter.
 #![tactic(auto)]
 
 fn main(rt: HostRuntime) {

@@ -6,11 +6,11 @@
 // that what is lent is there, is aligned and does not overlap (docs/EMBEDDING.md).
 #![tactic(auto)]
 
-ghost use Rattle.std.specs.Prelude.{[], ◌∷◌};
+ghost use Rattle.std.specs.Prelude.{◌≡◌, [], ◌∷◌};
 ghost use Rattle.model.specs.Numbers.{made_paper, allocated_paper, stood_paper, shaped_paper, read_paper, written_paper, room_paper, collected_paper};
 ghost use Rattle.model.specs.Calls.{Make, Allocate, AskStanding, AskShape, ReadReference, WriteReference, ReadPlain, WritePlain, AskRoom, Collect};
 ghost use Rattle.drawing.specs.Place.{PlainPlace};
-ghost use Rattle.drawing_c.specs.Face.{Told};
+ghost use Rattle.drawing_c.specs.Face.{Told, says};
 
 use drawing::allocate::allocate;
 use drawing::ask::shape;
@@ -19,8 +19,16 @@ use drawing::make::make;
 use drawing::place::plain_place;
 use drawing::plain::{read_plain, write_plain};
 use drawing::reference::{read_reference, write_reference};
-use model::{Handle, Shape, Standing};
+use model::{Handle, Refusal, Shape, Standing};
 use numbers::number;
+
+// Tells C an answer of one number: sets its value, 0 on a refusal, and gives the refusal number.
+fn told(answer: Result<u32, Refusal>, value: &mut u32) -> u32
+    ensures { read_paper answer ≡ says result (value.new ∷ []) }
+{
+    *value = answer.unwrap_or_default();
+    number(&answer)
+}
 
 #[unsafe(no_mangle)]
 pub extern "C" fn ds_make(arena: &mut [u32], segments: u32) -> u32
@@ -81,13 +89,12 @@ pub extern "C" fn ds_shape(
     number(&answer)
 }
 
+// Reads and writes of each kind: C has a name for each.
 #[unsafe(no_mangle)]
 pub extern "C" fn ds_read_reference(arena: &[u32], handle: u32, field: u32, value: &mut u32) -> u32
     ensures { Told read_paper (λ a. ReadReference arena.now handle field a arena.now) result (value.new ∷ []) }
 {
-    let answer = read_reference(arena, Handle(handle), field);
-    *value = answer.unwrap_or_default();
-    number(&answer)
+    told(read_reference(arena, Handle(handle), field), value)
 }
 
 #[unsafe(no_mangle)]
@@ -101,9 +108,7 @@ pub extern "C" fn ds_write_reference(arena: &mut [u32], handle: u32, field: u32,
 pub extern "C" fn ds_read_plain(arena: &[u32], handle: u32, field: u32, value: &mut u32) -> u32
     ensures { Told read_paper (λ a. ReadPlain arena.now handle field a arena.now) result (value.new ∷ []) }
 {
-    let answer = read_plain(arena, Handle(handle), field);
-    *value = answer.unwrap_or_default();
-    number(&answer)
+    told(read_plain(arena, Handle(handle), field), value)
 }
 
 #[unsafe(no_mangle)]
@@ -134,9 +139,7 @@ pub extern "C" fn ds_plain_words(
 pub extern "C" fn ds_room(arena: &[u32], cls: u32, room: &mut u32) -> u32
     ensures { Told room_paper (λ a. AskRoom arena.now cls a arena.now) result (room.new ∷ []) }
 {
-    let answer = drawing::ask::room(arena, cls);
-    *room = answer.unwrap_or_default();
-    number(&answer)
+    told(drawing::ask::room(arena, cls), room)
 }
 
 #[unsafe(no_mangle)]
@@ -148,7 +151,5 @@ pub extern "C" fn ds_collect(
 ) -> u32
     ensures { Told collected_paper (λ a. Collect arena.old roots.now work.old a arena.new work.new) result (count.new ∷ []) }
 {
-    let answer = collect(arena, roots, work);
-    *count = answer.unwrap_or_default();
-    number(&answer)
+    told(collect(arena, roots, work), count)
 }

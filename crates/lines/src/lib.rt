@@ -26,7 +26,7 @@ fn digit(byte: u8) -> Option<u32>
     ensures { SomeIff result (is_digit byte ≡ true) (byte - 48) }
 {
     match byte {
-        b'0'..=b'9' => Some((byte - b'0') as u32),
+        b'0'..=b'9' => Some(u32::from(byte - b'0')),
         _ => None,
     }
 }
@@ -38,7 +38,7 @@ fn more(v: u32, digit: u32) -> Option<u32>
     v.checked_mul(10)?.checked_add(digit)
 }
 
-// The value of a field that is a number.
+// The value of a field that is a number. Not `parse`, which takes a `+` in front.
 fn number(field: &[u8]) -> Option<u32>
     ensures { SomeIff result (is_number field.now ≡ true) (value field.now) }
 {

@@ -33,6 +33,7 @@ fn refused_text<W: fmt::Write>(f: &mut Formatter<W>, e: Refusal) -> fmt::Result
     writeln!(f, "refused {}", u32::from(e))
 }
 
+// The handle is a parameter: inside the answer it has no range in a proof (docs/PROVING.md).
 fn block_text<W: fmt::Write>(f: &mut Formatter<W>, handle: u32) -> fmt::Result
     ensures { WritesOnOk W.write_str_gives f.old result (numbered block_word handle newline) f.new }
 {

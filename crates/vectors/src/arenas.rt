@@ -16,7 +16,7 @@ pub fn spoil(arena: &mut [u32]) {
     }
 }
 
-// The handle that an allocation gives, 0 where it is refused.
+// The handle that an allocation gives: 0, as C is told, where it is refused.
 pub fn given(arena: &mut [u32], n: u32, r: u32, tag: u8) -> Handle {
     allocate(arena, n, r, tag).unwrap_or(Handle(0))
 }

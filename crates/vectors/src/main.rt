@@ -20,26 +20,24 @@ fn handle(rt: &impl Print, arena: &mut [u32], n: u32) -> io::Result<()> {
 // "Four blocks with n = 1,023 get handles 1 to 4, the fifth is refused with 4, and after collecting with root 3 the next gets 1."
 fn four(rt: &impl Print, arena: &mut [u32], list: &mut [u32]) -> io::Result<()> {
     let _made = make(arena, 1);
-    print::word(rt, b"n 1024: refused")?;
+    print!(rt; "n 1024: refused")?;
     print::answer(rt, &allocate(arena, 1024, 0, 7))?;
-    print::word(rt, b"\nn 1023:")?;
+    print!(rt; "\nn 1023:")?;
     for _ in 0..4 {
         handle(rt, arena, 1023)?;
     }
-    print::word(rt, b", fifth refused")?;
+    print!(rt; ", fifth refused")?;
     print::answer(rt, &allocate(arena, 1023, 0, 7))?;
-    print::word(rt, b", after root 3")?;
+    print!(rt; ", after root 3")?;
     let _live = collect(arena, &[3], list);
     handle(rt, arena, 1023)?;
-    print::end(rt)
+    println!(rt)
 }
 
 // A block of the list: its handle and its tag.
 fn leaf(rt: &impl Print, arena: &[u32], h: u32) -> io::Result<()> {
-    print::number(rt, h)?;
-    print::word(rt, b" tag")?;
-    print::number(rt, shape(arena, Handle(h)).map_or(0, |s| s.tag as u32))?;
-    print::word(rt, b",")
+    let tag = shape(arena, Handle(h)).map_or(0, |s| s.tag);
+    print!(rt; " {h} tag {tag},")
 }
 
 // Joins the two leaves to the panel, the left one twice, and lists the drawing.
@@ -58,13 +56,13 @@ fn panel(
     for &h in list.iter().take(live as usize) {
         leaf(rt, arena, h)?;
     }
-    print::end(rt)
+    println!(rt)
 }
 
 // The wall panel of the two leaves, its blocks allocated in two orders: the lists name the same leaves place by place.
 fn panel_first(rt: &impl Print, arena: &mut [u32], list: &mut [u32]) -> io::Result<()> {
     let _made = make(arena, 1);
-    print::word(rt, b"panel first:")?;
+    print!(rt; "panel first:")?;
     let p = arenas::given(arena, 3, 3, 7);
     let left = arenas::given(arena, 3, 0, 8);
     let right = arenas::given(arena, 3, 0, 9);
@@ -73,7 +71,7 @@ fn panel_first(rt: &impl Print, arena: &mut [u32], list: &mut [u32]) -> io::Resu
 
 fn panel_last(rt: &impl Print, arena: &mut [u32], list: &mut [u32]) -> io::Result<()> {
     let _made = make(arena, 1);
-    print::word(rt, b"panel last:")?;
+    print!(rt; "panel last:")?;
     let right = arenas::given(arena, 3, 0, 9);
     let left = arenas::given(arena, 3, 0, 8);
     let p = arenas::given(arena, 3, 3, 7);

@@ -1,4 +1,5 @@
 // Every refusal number of every call, and where two apply, that the lower one is given.
+// Each function takes the arenas by itself: & and &mut say which call alters them.
 use crate::{arenas, print};
 use drawing::{allocate, ask, collect, make, plain, reference};
 use model::{Handle, Refusal};
@@ -19,22 +20,22 @@ fn calls<A: Copy, T: Drop, F: FnMut(A) -> Result<T, Refusal>>(
 }
 
 fn make(rt: &impl Print, arena: &mut [u32]) -> io::Result<()> {
-    print::word(rt, b"make:")?;
+    print!(rt; "make:")?;
     calls(rt, &[0, 65, 2, 1], |segments| make::make(arena, segments))?;
-    print::end(rt)
+    println!(rt)
 }
 
 // The one segment is of another class, so that there is no room for a block of 1,023 words. 3 before 4, and 2
 // before 3 and 4.
 fn allocate(rt: &impl Print, arena: &mut [u32]) -> io::Result<()> {
     arenas::fresh(arena);
-    print::word(rt, b"allocate:")?;
+    print!(rt; "allocate:")?;
     calls(
         rt,
         &[(1024, 0), (1, 2), (1023, 0)],
         |(n, r)| allocate::allocate(arena, n, r, 7),
     )?;
-    print::word(rt, b", first")?;
+    print!(rt; ", first")?;
     calls(
         rt,
         &[(1023, 1024)],
@@ -46,71 +47,72 @@ fn allocate(rt: &impl Print, arena: &mut [u32]) -> io::Result<()> {
         &[(1024, 0), (1023, 0)],
         |(n, r)| allocate::allocate(arena, n, r, 7),
     )?;
-    print::end(rt)
+    println!(rt)
 }
 
 // 2 before 5, and 2 before 3.
 fn ask(rt: &impl Print, sound: &[u32], unsound: &[u32]) -> io::Result<()> {
     let shape = |(arena, h): (&[u32], u32)| ask::shape(arena, Handle(h));
-    print::word(rt, b"standing:")?;
+    print!(rt; "standing:")?;
     print::answer(rt, &ask::standing(sound, Handle(2)))?;
     print::answer(rt, &ask::standing(unsound, Handle(1)))?;
-    print::word(rt, b"\nshape:")?;
+    print!(rt; "\nshape:")?;
     calls(rt, &[(sound, 1), (sound, 0), (sound, 2)], shape)?;
-    print::word(rt, b", first")?;
+    print!(rt; ", first")?;
     calls(rt, &[(unsound, 2)], shape)?;
-    print::end(rt)
+    println!(rt)
 }
 
 fn room(rt: &impl Print, sound: &[u32], unsound: &[u32]) -> io::Result<()> {
     let room = |(arena, class): (&[u32], u32)| ask::room(arena, class);
-    print::word(rt, b"room:")?;
+    print!(rt; "room:")?;
     calls(rt, &[(sound, 4), (sound, 2), (sound, 13)], room)?;
-    print::word(rt, b", first")?;
+    print!(rt; ", first")?;
     calls(rt, &[(unsound, 2)], room)?;
-    print::end(rt)
+    println!(rt)
 }
 
 // 5 before 6, 2 before 5 and 6.
 fn read_reference(rt: &impl Print, sound: &[u32], unsound: &[u32]) -> io::Result<()> {
     let read = |(arena, h, f): (&[u32], u32, u32)| reference::read_reference(arena, Handle(h), f);
-    print::word(rt, b"read reference:")?;
+    print!(rt; "read reference:")?;
     calls(rt, &[(sound, 1, 1), (sound, 2, 0), (sound, 1, 2)], read)?;
-    print::word(rt, b", first")?;
+    print!(rt; ", first")?;
     calls(rt, &[(sound, 2, 2), (unsound, 2, 0), (unsound, 1, 2)], read)?;
-    print::end(rt)
+    println!(rt)
 }
 
+// As read_reference, but for the text, the call and two fields: a function over these four would be no shorter.
 fn read_plain(rt: &impl Print, sound: &[u32], unsound: &[u32]) -> io::Result<()> {
     let read = |(arena, h, f): (&[u32], u32, u32)| plain::read_plain(arena, Handle(h), f);
-    print::word(rt, b"read plain:")?;
+    print!(rt; "read plain:")?;
     calls(rt, &[(sound, 1, 0), (sound, 2, 0), (sound, 1, 1)], read)?;
-    print::word(rt, b", first")?;
+    print!(rt; ", first")?;
     calls(rt, &[(sound, 2, 1), (unsound, 2, 0), (unsound, 1, 1)], read)?;
-    print::end(rt)
+    println!(rt)
 }
 
 // Without a number: 1 where there are plain words, 0 where the part is empty.
 fn plain_words(rt: &impl Print, sound: &[u32], unsound: &[u32]) -> io::Result<()> {
-    print::word(rt, b"plain words:")?;
+    print!(rt; "plain words:")?;
     for (arena, h) in [(sound, 1), (sound, 2), (unsound, 1)] {
         let part = plain::plain_words(arena, Handle(h));
         print::number(rt, u32::from(!part.is_empty()))?;
     }
-    print::end(rt)
+    println!(rt)
 }
 
 // 5 before 6 and 7, 6 before 7, 2 before each.
 fn write_reference(rt: &impl Print, sound: &mut [u32], unsound: &mut [u32]) -> io::Result<()> {
     let places = [(1, 0, 1), (2, 0, 0), (1, 2, 0), (1, 0, 2)];
-    print::word(rt, b"write reference:")?;
+    print!(rt; "write reference:")?;
     calls(
         rt,
         &places,
         |(h, f, v)| reference::write_reference(sound, Handle(h), f, v),
     )?;
     let places = [(2, 2, 0), (2, 0, 2), (1, 2, 2)];
-    print::word(rt, b", first")?;
+    print!(rt; ", first")?;
     calls(
         rt,
         &places,
@@ -122,18 +124,18 @@ fn write_reference(rt: &impl Print, sound: &mut [u32], unsound: &mut [u32]) -> i
         &places,
         |(h, f, v)| reference::write_reference(unsound, Handle(h), f, v),
     )?;
-    print::end(rt)
+    println!(rt)
 }
 
 fn write_plain(rt: &impl Print, sound: &mut [u32], unsound: &mut [u32]) -> io::Result<()> {
     let places = [(1, 0, u32::MAX), (2, 0, 0), (1, 1, 0)];
-    print::word(rt, b"write plain:")?;
+    print!(rt; "write plain:")?;
     calls(
         rt,
         &places,
         |(h, f, v)| plain::write_plain(sound, Handle(h), f, v),
     )?;
-    print::word(rt, b", first")?;
+    print!(rt; ", first")?;
     calls(
         rt,
         &[(2, 1, 0)],
@@ -144,7 +146,7 @@ fn write_plain(rt: &impl Print, sound: &mut [u32], unsound: &mut [u32]) -> io::R
         &[(2, 0, 0), (1, 1, 0)],
         |(h, f, v)| plain::write_plain(unsound, Handle(h), f, v),
     )?;
-    print::end(rt)
+    println!(rt)
 }
 
 // 8 before 9, 2 before each.
@@ -155,15 +157,15 @@ fn collect(
     list: &mut [u32],
 ) -> io::Result<()> {
     let none: &mut [u32] = &mut [];
-    print::word(rt, b"collect:")?;
+    print!(rt; "collect:")?;
     print::answer(rt, &collect::collect(sound, &[1, 0], list))?;
     print::answer(rt, &collect::collect(sound, &[2], list))?;
     print::answer(rt, &collect::collect(sound, &[1], none))?;
-    print::word(rt, b", first")?;
+    print!(rt; ", first")?;
     print::answer(rt, &collect::collect(sound, &[2], none))?;
     print::answer(rt, &collect::collect(unsound, &[2], list))?;
     print::answer(rt, &collect::collect(unsound, &[1], none))?;
-    print::end(rt)
+    println!(rt)
 }
 
 pub fn all(
