@@ -15,7 +15,7 @@ use arrayvec::ArrayVec;
 pub type Roots = ArrayVec<u32, 16>;
 
 // What a line asks for.
-#[derive(Debug, Drop, PartialEq, Eq)]
+#[derive(Clone, Debug, Drop, PartialEq, Eq)]
 pub enum Order {
     Allocate(u32, u32, u8),
     Link(u32, u32, u32),

@@ -1,10 +1,10 @@
 -- Laws of gathering: the references of a segment's taken blocks end to end, block by block, by the set bits of a word, and word by word.
 -- Assumes nothing.
-use Prim.Native.Nat.{ℕ, ◌+◌, ◌-◌, ◌*◌, ◌^◌, ◌≤◌, ◌<◌}
+use Prim.Native.Nat.{ℕ, ◌+◌, ◌-◌, ◌*◌, ◌^◌, ◌≤◌, ◌<◌, zero, suc}
 use mathlib.Core.Path.{◌≡◌, refl, sym, ap, ap₂, subst, ◌∙◌}
 use mathlib.Core.Bool.{Bool, true, false, not, ◌&&◌, ◌||◌, and-true, and-false, and-eq-true_iff, false≢true}
 use mathlib.Core.List.{List, [], ◌++◌}
-use native.Mathlib.Nat.{mul-add, mul-le-mul_left, mul-le-mul_right}
+use native.Mathlib.Nat.{mul-add, mul-le-mul_left, mul-le-mul_right, mul-suc}
 use native.Mathlib.Omega.{arith}
 use Rattle.std.proofs.Common.{Option, Some, None}
 use lib.Dec.{eqb, leb, ltb}
@@ -123,6 +123,22 @@ gathered_room {ws} {s} {k} g c l =
       g.few,
       block_inside (class ws s) k c l,
       mul-le-mul_right k (less (block_words (class ws s))),
+    )
+  where
+    less : (w : ℕ) → w - 1 ≤ w
+    less w = omega arith
+
+-- and all of them fit
+pub gathered_within : {ws : List ℕ} {s : ℕ} (end : ℕ) {refs : List ℕ} → Gathered ws s end refs → is_class (class ws s) ≡ true
+    → end ≤ blocks (class ws s) → length refs ≤ 4096
+gathered_within {ws} {s} zero g c l = omega (arith, g.few)
+gathered_within {ws} {s} (suc k) g c l =
+    omega (
+      arith,
+      g.few,
+      block_inside (class ws s) k c l,
+      mul-suc (block_words (class ws s)) k,
+      mul-le-mul_right (suc k) (less (block_words (class ws s))),
     )
   where
     less : (w : ℕ) → w - 1 ≤ w
