@@ -3,7 +3,7 @@ ghost use Rattle.std.specs.Prelude.{◌≤◌, length, Some, OnOk};
 ghost use Rattle.std.specs.Fmt.{WritesOnOk};
 ghost use Rattle.std.specs.Io.KnownBytes.{Appends};
 ghost use Rattle.model.specs.Numbers.{refusal_number};
-ghost use Rattle.typed.specs.Answers.{spelled, numbered, newline, block_word, refused_word, allocated_words, written_words, collected_words, answer_words};
+ghost use Rattle.typed.specs.Answers.{spelled, numbered, newline, refused_word, allocated_words, written_words, collected_words, answer_words};
 ghost use Rattle.typed.specs.Orders.{live_count, listed_count};
 
 use crate::Answer;
@@ -33,18 +33,11 @@ fn refused_text<W: fmt::Write>(f: &mut Formatter<W>, e: Refusal) -> fmt::Result
     writeln!(f, "refused {}", u32::from(e))
 }
 
-// The handle is a parameter: inside the answer it has no range in a proof (docs/PROVING.md).
-fn block_text<W: fmt::Write>(f: &mut Formatter<W>, handle: u32) -> fmt::Result
-    ensures { WritesOnOk W.write_str_gives f.old result (numbered block_word handle newline) f.new }
-{
-    writeln!(f, "block {handle}")
-}
-
 fn allocated_text<W: fmt::Write>(f: &mut Formatter<W>, a: Result<Handle, Refusal>) -> fmt::Result
     ensures { WritesOnOk W.write_str_gives f.old result (allocated_words a) f.new }
 {
     match a {
-        Ok(h) => block_text(f, h.0),
+        Ok(h) => writeln!(f, "block {}", h.0),
         Err(e) => refused_text(f, e),
     }
 }
