@@ -23,10 +23,9 @@ use Rattle.taken.specs.Row.{TakenRow}
 use Rattle.taken.proofs.RowLaws.{is_taken_at, row_bit_taken}
 use Rattle.std.specs.List.{range_with_len}
 use Rattle.std.proofs.lemmas.List.FromFn.{sum_by-map-range_with_len_more}
-use Rattle.std.proofs.Common.{sum, sum_by, map, get_or-drop, add-one}
+use Rattle.std.proofs.Common.{sum, map, add-one}
 use Rattle.std.proofs.lemmas.Bool.Decides.{nat_tests}
-use Rattle.std.proofs.lemmas.List.Sums.{sum_by_more}
-use lib.ListN.{length, take, drop, length-drop}
+use lib.ListN.{length}
 use Rattle.drawing.specs.Rooms.{room_in}
 
 -- ---- the words of a segment
