@@ -3,7 +3,7 @@
 // For any words whatever the answer is true exactly if they are a sound arena. The judge of records and places
 // comes first. Where that is content the taken row says which blocks are taken, and the judge of headers and
 // references goes by it. A caller lends the row with all its words 0; whoever finds the arena sound keeps it and asks it
-// from then on.
+// from then on. The row is an array and no type of its own: docs/STATEMENTS.md names it so.
 #![tactic(auto)]
 
 ghost use Rattle.taken.specs.Row.{ZeroRow};
