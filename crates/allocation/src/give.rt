@@ -43,7 +43,8 @@ fn put_place(arena: &mut [u32], class: u32, rank: u32, index: u32)
     arena[class as usize - 2] = place(rank, index);
 }
 
-// The segment joins the class at that rank, with count 0 and no bit set.
+// The segment joins the class at that rank, with count 0 and no bit set. Its record is cut here, as in crate ranking: to write, and
+// `arena::record_of` cuts it to read.
 fn join(arena: &mut [u32], segment: u32, class: u32, rank: u32)
     requires { Join arena.old segment class rank }
     ensures { arena.new ≡ put arena.old (record_at segment) (record_words class rank 0 (λ k. false)) }

@@ -24,7 +24,8 @@ pub struct Sound<'a, 'r> {
     ghost ruled: { Ruled arena.now row.now },
 }
 
-// Refusal 2 unless the arena is sound. The row is lent with all its words 0.
+// Refusal 2 unless the arena is sound. The row is lent with all its words 0. Each call lends its own: 32 KB within a `Sound` would
+// be copied where it is moved.
 pub fn judged<'a, 'r>(arena: &'a [u32], row: &'r mut [u32; 8192]) -> Result<Sound<'a, 'r>, Refusal>
     requires { row.old ≡ replicate 8192 0 }
     ensures { Tested Unsound (sound arena.now) (λ j. j.arena.now ≡ arena.now) result }

@@ -58,6 +58,7 @@ pub extern "C" fn ds_standing(
     ensures { Told stood_paper (λ a. AskStanding arena.now handle a arena.now) result (standing.new ∷ n.new ∷ r.new ∷ tag.new ∷ []) }
 {
     let answer = drawing::ask::standing(arena, Handle(handle));
+    // C has the standing as a number.
     let (kind, shape) = match answer {
         Ok(Standing::None) | Err(_) => (0, Shape::default()),
         Ok(Standing::Outside) => (1, Shape::default()),

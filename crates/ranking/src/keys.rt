@@ -44,7 +44,8 @@ fn key_of(arena: &[u32], lives: &[u32; 64], s: u32) -> u32
     key(i, group, rank(arena, s))
 }
 
-// The keys of the n segments of an arena.
+// The keys of the n segments of an arena: the first n of 64, and no `ArrayVec`, since `keys_in`, which docs/STATEMENTS.md names,
+// takes the row and n.
 #[derive(Drop)]
 pub struct SegmentKeys {
     pub n: u32,
@@ -53,6 +54,7 @@ pub struct SegmentKeys {
 }
 
 impl SegmentKeys {
+    // One function asks that the arena is whole: a type for that would be no shorter.
     pub fn of(arena: &[u32], lives: &[u32; 64]) -> SegmentKeys
         requires { Whole arena.now }
         ensures all { result.n ≡ segments arena.now }

@@ -5,7 +5,8 @@ ghost use Rattle.ranking.specs.Live.{RowOf, Row, live_in, Live};
 use crate::rows::by_segment;
 use words::bits::ones_in;
 
-// The marks of a segment are 64 words; behind its blocks none is set.
+// The marks of a segment are 64 words; behind its blocks none is set. Crate drawing has the same two lines over its taken row:
+// one function for both would be no shorter.
 fn live_in(marks: &[u32], s: u32) -> u32
     requires { RowOf marks.now s }
     ensures { (result ≡ live_in marks.now s) × (result ≤ 2048) }

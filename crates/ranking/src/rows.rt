@@ -9,6 +9,7 @@ pub(crate) fn by_segment<F: Fn(u32) -> u32>(n: u32, f: F) -> [u32; 64]
     ensures { (s : ℕ) → s < n → F.post f s (word result s) }
 {
     let mut row = [0; 64];
+    // By number: f takes it, and a place in the row would have to be made one again.
     for s in 0..n {
         row[s as usize] = f(s);
     }

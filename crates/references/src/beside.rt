@@ -37,6 +37,7 @@ fn put_fields(block: &[u32], size: usize, k: usize, rest: &mut [u32])
     requires { Fields block.now size k (length rest.old) }
     ensures { FieldsPut block.now k (size - 1) rest.old rest.new }
 {
+    // By number: field f stands at word 32 f + k, and the header says by f whether it is there.
     for f in 0..size - 1 {
         rest[32 * f + k] = reference_or_none(block, f);
     }

@@ -29,6 +29,7 @@ impl Member<'_> {
         requires { k < blocks self.class }
         ensures { result ≡ right_at self.entry.arena.now self.entry.s k }
     {
+        // Its handle, as a number: the row is asked by numbers.
         if !is_taken(self.row, 2048 * self.s + k + 1) {
             return true;
         }

@@ -1,4 +1,5 @@
-// The hand program: an arena of two segments, a work list, and what a person types (crate typed).
+// The hand program: an arena of two segments, a work list, and what a person types (crate typed). Crate badlines is the same
+// program on other input: a crate has one input and one output that it is held to.
 #![tactic(auto)]
 
 fn main(rt: HostRuntime) {

@@ -30,8 +30,8 @@ pub fn is_taken(row: &[u32; 8192], h: u32) -> bool
 }
 
 // What the words that have been asked have in common: the lowest bit of `all` is set if all their bits are, and
-// `over` has every bit that one of them has. Words too great for any handle show in it. Numbers and no bools: so no branch
-// depends on a word.
+// `over` has every bit that one of them has. Words too great for any handle show in it. Numbers and no bools: each bool
+// would be made of a bit and joined by `&` all the same.
 #[derive(Clone, Copy, Debug, PartialEq, Eq)]
 pub struct Seen {
     pub all: u32,

@@ -24,6 +24,7 @@ fn first(block: &[u32], row: &mut [u32], n: usize)
     requires { Masked block.now × (n ≤ 8) × (n ≤ length row.old) }
     ensures { First block.now n row.new }
 {
+    // By number: a field is asked for by it.
     for f in 0..n {
         row[f] = reference(block, f);
     }

@@ -38,6 +38,7 @@ pub fn keep_new(row: &mut [u32], end: usize, marks: &mut [u32]) -> usize
     ensures { Kept row.old end marks.old result row.new marks.new }
 {
     let mut kept = 0;
+    // By number: a word is read from the row that is written.
     for k in 0..end {
         let h = row[k];
         row[kept] = h;

@@ -69,6 +69,7 @@ fn panel_first(rt: &impl Print, arena: &mut [u32], list: &mut [u32]) -> io::Resu
     panel(rt, arena, list, p, left, right)
 }
 
+// The order of the allocations is what differs, and what is shown.
 fn panel_last(rt: &impl Print, arena: &mut [u32], list: &mut [u32]) -> io::Result<()> {
     let _made = make(arena, 1);
     print!(rt; "panel last:")?;

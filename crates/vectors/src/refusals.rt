@@ -127,6 +127,7 @@ fn write_reference(rt: &impl Print, sound: &mut [u32], unsound: &mut [u32]) -> i
     println!(rt)
 }
 
+// As write_reference, but for the text, the call and the places.
 fn write_plain(rt: &impl Print, sound: &mut [u32], unsound: &mut [u32]) -> io::Result<()> {
     let places = [(1, 0, u32::MAX), (2, 0, 0), (1, 1, 0)];
     print!(rt; "write plain:")?;

@@ -1,6 +1,7 @@
 // Handles, block indices and word offsets, and the ways from one to another.
 //
-// "A handle is segment x 2,048 + block index + 1. Handle 0 means none."
+// "A handle is segment x 2,048 + block index + 1. Handle 0 means none." No `Option` says so: a caller may ask with any number, and
+// docs/STATEMENTS.md names these functions with what they take.
 ghost use Rattle.std.specs.Prelude.{◌≡◌, ◌*◌, ◌<◌, ◌≤◌};
 ghost use Rattle.model.specs.Class.{blocks, block_words};
 ghost use Rattle.model.specs.Layout.{handle, segment_of, index_of, block_at};
