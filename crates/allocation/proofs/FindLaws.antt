@@ -98,7 +98,7 @@ module _ {ws : List ℕ} {i q k : ℕ} (h : AtPlace ws i q k) where
   facts = sound_facts ws h.search.is_sound
 
   -- the place is in the segment of a rank of the class
-  place_ranked : place_rank ws i < members ws i
+  pub place_ranked : place_rank ws i < members ws i
   place_ranked = (facts.placed i h.search.class).used h.some
 
   pub at_asked : FreeAt ws i q k

@@ -50,7 +50,7 @@ digits_snoc (c ∷ ds) b all d =
 pub digits_more : (ds : List ℕ) (at : ℕ) → at < length ds → all_digits (take at ds) ≡ true → is_digit (get_or ds at 0) ≡ true → all_digits (take (at + 1) ds) ≡ true
 digits_more ds at h all d = rw (add-one, take-suc ds at 0) (digits_snoc (take at ds) (get_or ds at 0) all d)
 
-digit_at : (ds : List ℕ) (at : ℕ) → all_digits ds ≡ true → at < length ds → is_digit (get_or ds at 0) ≡ true
+pub digit_at : (ds : List ℕ) (at : ℕ) → all_digits ds ≡ true → at < length ds → is_digit (get_or ds at 0) ≡ true
 unfolding all_digits
 digit_at [] at all h = absurd (omega arith)
 digit_at (b ∷ ds) zero all h = (and_parts (is_digit b) (all_digits ds) all).0

@@ -20,8 +20,8 @@ same_order (Some (order.Link a b c)) None e = cc
 same_order (Some (order.Collect n)) (Some (order.Allocate a' b' c')) e = cc
 same_order (Some (order.Collect n)) (Some (order.Link a' b' c')) e = cc
 same_order (Some (order.Collect n)) (Some (order.Collect n')) e =
-    let roots : n.items ≡ n'.items = cc in
-    ap (λ (l : List ℕ). Some (order.Collect (record { items = l }))) roots
+    let roots : n ≡ n' = cc in
+    ap (λ (l : List ℕ). Some (order.Collect l)) roots
 same_order (Some (order.Collect n)) None e = cc
 same_order None (Some (order.Allocate a' b' c')) e = cc
 same_order None (Some (order.Link a' b' c')) e = cc

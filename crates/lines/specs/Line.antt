@@ -72,5 +72,5 @@ meaning text = cond (leb (length text) 80) (meant (fields text)) bad
 abbrev pub order_meaning : Option Order → Meaning
 order_meaning (Some (order.Allocate n r tag)) = allocates n r tag
 order_meaning (Some (order.Link h f v)) = links h f v
-order_meaning (Some (order.Collect roots)) = collects roots.items
+order_meaning (Some (order.Collect roots)) = collects roots
 order_meaning None = bad

@@ -10,12 +10,56 @@ ghost use Rattle.std.specs.Prelude.{◌≡◌, true, false, ◌+◌, ◌-◌, �
 ghost use Rattle.lines.specs.Line.{is_digit, is_number, fields, all_numbers, value, said, meaning, order_meaning};
 
 use arrayvec::ArrayVec;
+use std::marker::Model;
 
-// A collection has at most so many roots.
-pub type Roots = ArrayVec<u32, 16>;
+// The numbers behind a letter: at most so many.
+type Numbers = ArrayVec<u32, 16>;
+
+// The roots of a collection. Words past them are 0, so that equal roots are equal words.
+#[derive(Clone, Copy, Debug, PartialEq, Eq)]
+pub struct Roots {
+    words: [u32; 16],
+    count: usize,
+}
+
+impl Model for Roots {
+    ghost use Rattle.std.specs.Prelude.{◌≡◌, ℕ, ◌-◌, ◌≤◌, List, ◌++◌, length, take, drop, replicate};
+    ghost use Rattle.std.proofs.Common.{arith, length-take-le};
+    ghost use Rattle.lines.specs.Roots.{filled};
+
+    ghost Value = { List ℕ };
+
+    ghost view = { λ r. take r.count r.words };
+
+    ghost invariant = { λ r. (r.count ≤ 16) × (length r.words ≡ 16) × (drop r.count r.words ≡ replicate (16 - r.count) 0) };
+
+    ghost inverse = { λ ns. record { words = ns ++ replicate (16 - length ns) 0; count = length ns } };
+
+    ghost inverse_ok = { λ r h i. record {
+      words = filled r.count r.words h.0 h.1 h.2 i;
+      count = length-take-le r.count r.words (omega (arith, h.0, h.1)) i;
+    } };
+}
+
+impl Roots {
+    fn of(numbers: &Numbers) -> Roots
+        ensures { result ≡ numbers.now.items }
+    {
+        let count = numbers.len();
+        let mut words = [0; 16];
+        words[..count].copy_from_slice(numbers);
+        Roots { words, count }
+    }
+
+    pub fn as_slice(&self) -> &[u32]
+        ensures { result.now ≡ self.now }
+    {
+        &self.words[..self.count]
+    }
+}
 
 // What a line asks for.
-#[derive(Clone, Debug, Drop, PartialEq, Eq)]
+#[derive(Clone, Copy, Debug, PartialEq, Eq)]
 pub enum Order {
     Allocate(u32, u32, u8),
     Link(u32, u32, u32),
@@ -53,11 +97,11 @@ fn number(field: &[u8]) -> Option<u32>
 }
 
 // The numbers of a text, parted by spaces, if there are no more than 16.
-fn numbers(text: &[u8]) -> Option<Roots>
+fn numbers(text: &[u8]) -> Option<Numbers>
     ensures { MatchOption result ((all_numbers (fields text.now) && leb (length (fields text.now)) 16) ≡ false)
         (λ ns. (all_numbers (fields text.now) ≡ true) × (ns.items ≡ map value (fields text.now))) }
 {
-    let mut all = Roots::new();
+    let mut all = Numbers::new();
     for field in text.split(|&b| b == b' ') {
         all.try_push(number(field)?).ok()?;
     }
@@ -65,13 +109,13 @@ fn numbers(text: &[u8]) -> Option<Roots>
 }
 
 // What a letter and numbers ask for.
-fn order_of(letter: u8, numbers: Roots) -> Option<Order>
+fn order_of(letter: u8, numbers: Numbers) -> Option<Order>
     ensures { order_meaning result ≡ said letter numbers.items }
 {
     match (letter, numbers.as_slice()) {
         (b'N', &[n, r, tag]) => Some(Order::Allocate(n, r, u8::try_from(tag).ok()?)),
         (b'L', &[h, f, v]) => Some(Order::Link(h, f, v)),
-        (b'K', _) => Some(Order::Collect(numbers)),
+        (b'K', _) => Some(Order::Collect(Roots::of(&numbers))),
         _ => None,
     }
 }
@@ -84,7 +128,7 @@ pub fn read_line(text: &[u8]) -> Option<Order>
         return None;
     }
     match text {
-        [letter] => order_of(*letter, Roots::new()),
+        [letter] => order_of(*letter, Numbers::new()),
         [letter, b' ', behind @ ..] => order_of(*letter, numbers(behind)?),
         _ => None,
     }

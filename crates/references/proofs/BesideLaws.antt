@@ -225,6 +225,7 @@ module _ {ws : List ℕ} {N s i j : ℕ} {refs : List ℕ} (of : Of ws N s i) (a
       go None wrong = headers ∙ wrong
       go (Some refs') d = record {
         headers = headers ∙ d.headers;
+        room = omega (arith, d.counted, big, full_room);
         few = omega (arith, d.counted, big, own, a.gathered.few, mul-add (block_words (class ws s) - 1) (32 * j) 32);
         tests = λ p none.
             d.tests p none

@@ -10,7 +10,7 @@ use Rattle.std.proofs.Common.{Option, Some, None}
 use lib.Dec.{eqb, leb, ltb}
 use lib.Bits.{bit_and, and_le_r}
 use lib.Count.{count_trailing_zeros, trailing_le, trailing_of_zero}
-use lib.ListN.{length, take, drop, length-append, length-take, length-drop}
+use lib.ListN.{length, take, drop, length-take, length-drop}
 use lib.Seq.{length-take-le, get_or-take, take-append-le, take-append-add}
 use borrow.Author.Tests.{le-ltb, ltb-true, ltb-false, eqb-true, eqb-false, ne_eqb, leb-true}
 use Rattle.model.specs.Below.{all_below}
@@ -112,7 +112,7 @@ module _ (ws : List ℕ) (s : ℕ) where
 -- nothing is gathered yet
 pub gathered_none : (ws : List ℕ) (s : ℕ) → Gathered ws s 0 []
 unfolding all_below
-gathered_none ws s = record { headers = refl; few = omega arith; tests = λ p none. refl }
+gathered_none ws s = record { headers = refl; room = omega arith; few = omega arith; tests = λ p none. refl }
 
 -- so there is room for those of one block more
 pub gathered_room : {ws : List ℕ} {s k : ℕ} {refs : List ℕ} → Gathered ws s k refs → is_class (class ws s) ≡ true
@@ -145,26 +145,15 @@ gathered_within {ws} {s} (suc k) g c l =
     less w = omega arith
 
 pub gathered_step : {ws : List ℕ} {s k i : ℕ} {b refs : List ℕ} (added : Option (List ℕ)) → Gathered ws s k refs
-    → taken_at ws s k ≡ true → k < blocks (class ws s) → length b ≡ block_words i → i ≡ class ws s → b ≡ block_of ws s k → Added i b refs added
-    → GatheredBelow ws s (k + 1) added
-gathered_step {ws} {s} {k} {i} {b} {refs} None g t inside long e u wrong =
+    → taken_at ws s k ≡ true → i ≡ class ws s → b ≡ block_of ws s k → Added i b refs added → GatheredBelow ws s (k + 1) added
+gathered_step {ws} {s} {k} {i} {b} {refs} None g t e u wrong =
     all_below_step k (headed ws s) ∙ ap₂ ◌&&◌ g.headers (headed_taken ws s k t ∙ sym (ap₂ header_right e u) ∙ wrong)
-gathered_step {ws} {s} {k} {i} {b} {refs} (Some refs') g t inside long e u (right, words) = record {
-  headers = all_below_step k (headed ws s) ∙ ap₂ ◌&&◌ g.headers (headed_taken ws s k t ∙ sym (ap₂ header_right e u) ∙ right);
-  few =
-      let room = header_room i b right in
-      omega (
-        arith,
-        ap length words,
-        length-append refs (references_in b),
-        length_part b 1 (r_in b) (omega (arith, long, room)),
-        room,
-        g.few,
-        ap block_words e,
-        mul-add (block_words (class ws s) - 1) k 1,
-      );
+gathered_step {ws} {s} {k} {i} {b} {refs} (Some refs') g t e u a = record {
+  headers = all_below_step k (headed ws s) ∙ ap₂ ◌&&◌ g.headers (headed_taken ws s k t ∙ sym (ap₂ header_right e u) ∙ a.header);
+  room = a.room;
+  few = omega (arith, a.few, g.few, ap block_words e, mul-add (block_words (class ws s) - 1) k 1);
   tests = λ p none.
-      ap (all_words p) words ∙ all_words_append p refs (references_in b)
+      ap (all_words p) a.words ∙ all_words_append p refs (references_in b)
       ∙ ap₂ ◌&&◌ (g.tests p none) (ap (all_words p) (ap references_in u ∙ sym (references_taken ws s k t)))
       ∙ sym (all_below_step k (λ k. all_words p (references_of ws s k)));
 }
@@ -173,6 +162,7 @@ pub gathered_skip : {ws : List ℕ} {s a b : ℕ} {refs : List ℕ} → Gathered
     → ((k : ℕ) → a ≤ k → k < b → taken_at ws s k ≡ false) → Gathered ws s b refs
 gathered_skip {ws} {s} {a} {b} g l free = record {
   headers = skip_headed ws s a b l free ∙ g.headers;
+  room = g.room;
   few = omega (arith, g.few, mul-le-mul_left (block_words (class ws s) - 1) l);
   tests = λ p none. g.tests p none ∙ sym (skip_tests ws s a b l free p);
 }

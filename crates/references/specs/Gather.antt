@@ -52,14 +52,21 @@ pub record Adding (i : ℕ) (b refs : List ℕ) : Type 0 where
   pub some : 2 ≤ block_words i
   pub room : length refs + (block_words i - 1) ≤ 4096
 
+pub record Right (i : ℕ) (b refs refs' : List ℕ) : Type 0 where
+  pub header : header_right i b ≡ true
+  pub room : length refs' ≤ 4096
+  pub few : length refs' ≤ length refs + (block_words i - 1)
+  pub words : refs' ≡ refs ++ references_in b
+
 abbrev pub Added : ℕ → List ℕ → List ℕ → Option (List ℕ) → Type 0
-Added i b refs added = MatchOption added (header_right i b ≡ false) (λ refs'. (header_right i b ≡ true) × (refs' ≡ refs ++ references_in b))
+Added i b refs added = MatchOption added (header_right i b ≡ false) (Right i b refs)
 
 -- ---- what the blocks of a segment below `end` give
 
 -- with right headers, their references, and perhaps zeros: a test that 0 passes is passed by all of them exactly if all references pass it
 pub record Gathered (ws : List ℕ) (s end : ℕ) (refs : List ℕ) : Type 0 where
   pub headers : all_below end (headed ws s) ≡ true
+  pub room : length refs ≤ 4096
   pub few : length refs ≤ (block_words (class ws s) - 1) * end
   pub tests : (p : ℕ → Bool) → p 0 ≡ true → all_words p refs ≡ all_below end (λ k. all_words p (references_of ws s k))
 

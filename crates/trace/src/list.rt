@@ -1,9 +1,17 @@
 // The list of a trace: handles are put on its end, each block once, and a block is marked when it is put on.
-ghost use Rattle.std.specs.Prelude.{[]};
+ghost use Rattle.std.specs.Prelude.{◌≡◌, [], ◌<◌, length, get_or};
 ghost use Rattle.ways.proofs.Put.{put_all};
 ghost use Rattle.trace.specs.List.{On, Root, PutRoot, Roots, Handles, Kept};
 
 use crate::marks::{clear, mark};
+
+// The root at a position.
+fn root_at(roots: &[u32], p: usize) -> u32
+    requires { p < length roots.now }
+    ensures { result ≡ get_or roots.now p 0 }
+{
+    roots[p]
+}
 
 // Puts a root on the list, of which the first c words are in use, unless it is 0 or there already. Gives the
 // new c. The list is C's, and row and list are named in docs/STATEMENTS.md as slices: so each has its length in use beside it.
@@ -25,8 +33,8 @@ pub fn put_roots(n: u32, roots: &[u32], list: &mut [u32], marks: &mut [u32]) -> 
 {
     clear(marks, n);
     let mut c = 0;
-    for &h in roots {
-        c = put_root(h, list, c, marks);
+    for p in 0..roots.len() {
+        c = put_root(root_at(roots, p), list, c, marks);
     }
     c
 }

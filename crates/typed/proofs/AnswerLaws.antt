@@ -3,18 +3,20 @@
 use Prim.Native.Nat.{ℕ, zero, suc, ◌+◌, ◌-◌, ◌/◌, ◌%◌, ◌^◌, ◌≤◌, ◌<◌}
 use mathlib.Core.Path.{◌≡◌, refl, sym, ap, ◌∙◌}
 use mathlib.Core.Logic.{inl, inr}
-use mathlib.Core.Bool.{Bool, true, false}
+use mathlib.Core.Bool.{Bool, true, false, false≢true}
 use mathlib.Core.List.{List, [], ◌∷◌, ◌++◌, append_assoc, append-nil}
 use native.Mathlib.Nat.{le_refl, le_of_suc-le-suc, lt_of_not-le, eq-or-lt_of_le, pow-suc, pow-le-pow_right}
 use native.Mathlib.Numerals.{add-one, sub-one}
 use native.Mathlib.Omega.{arith}
 use lib.Dec.{ltb}
-use lib.ListN.{length, get_or, take, length-append}
+use lib.ListN.{length, get_or, take, drop, length-append}
 use lib.Seq.{take-suc}
 use borrow.Author.Tests.{lt-ltb, le-ltb, ne_eqb}
 use Rattle.typed.specs.Digits.{hex_digit_ascii, last_digits, IsDigitCount}
+use Rattle.std.specs.Prelude.{Result, Ok, Err, IsOk, OnOk, ◌↔◌}
 use Rattle.std.specs.Fmt.{decimal as text_of}
 use Rattle.std.proofs.lemmas.Fmt.{decimal_by_steps}
+use Rattle.std.proofs.Common.{take-append-drop}
 use Rattle.model.specs.Below.{first_from}
 use Rattle.typed.specs.Answers.{places, decimal, spelled, newline, colon, refused_word, live_word, numbered, said, live_words}
 
@@ -29,7 +31,7 @@ not_more v k small fewest over =
     let q : 10 ^ 10 ≤ 10 ^ (k - 1) = pow-le-pow_right pos past in
     omega arith
 
-ten : (v k : ℕ) → v < 4294967296 → IsDigitCount 10 1 v k → k ≤ 10
+pub ten : (v k : ℕ) → v < 4294967296 → IsDigitCount 10 1 v k → k ≤ 10
 ten v k small fewest = le_of_suc-le-suc (lt_of_not-le (not_more v k small fewest))
 
 -- a number before which every test fails, and at which it passes, is the first
@@ -55,7 +57,7 @@ fewest_places v k small fewest =
     omega arith in
     first_at 1 9 (λ j. ltb v (10 ^ j)) k fewest.0 (ten v k small fewest) (λ j l h. le-ltb _ _ (powers j l h)) (λ h. lt-ltb _ _ fewest.1)
 
-decimal_is : (v k : ℕ) → v < 4294967296 → IsDigitCount 10 1 v k → last_digits 10 k v ≡ decimal v
+pub decimal_is : (v k : ℕ) → v < 4294967296 → IsDigitCount 10 1 v k → last_digits 10 k v ≡ decimal v
 unfolding decimal
 decimal_is v k small fewest = ap (λ (j : ℕ). last_digits 10 j v) (fewest_places v k small fewest)
 
@@ -104,13 +106,13 @@ printed_is v small =
 
 -- ---- handles, each after a space
 
-spelled_append : (hs gs : List ℕ) → spelled (hs ++ gs) ≡ spelled hs ++ spelled gs
+pub spelled_append : (hs gs : List ℕ) → spelled (hs ++ gs) ≡ spelled hs ++ spelled gs
 unfolding spelled
 spelled_append [] gs = refl
 spelled_append (h ∷ hs) gs =
     ap (λ (r : List ℕ). (32 ∷ decimal h) ++ r) (spelled_append hs gs) ∙ sym (append_assoc (32 ∷ decimal h) (spelled hs) (spelled gs))
 
-spelled_one : (h : ℕ) → spelled (h ∷ []) ≡ 32 ∷ decimal h
+pub spelled_one : (h : ℕ) → spelled (h ∷ []) ≡ 32 ∷ decimal h
 unfolding spelled
 spelled_one h = append-nil (32 ∷ decimal h)
 
@@ -121,16 +123,16 @@ spelled_more hs at l =
     ∙ spelled_append (take at hs) (get_or hs at 0 ∷ [])
     ∙ ap (λ (r : List ℕ). spelled (take at hs) ++ r) (spelled_one (get_or hs at 0))
 
--- ---- a word, a number and what ends it
+-- a list from its two parts
+pub both_parts : (n : ℕ) (hs front back : List ℕ) → front ≡ take n hs → back ≡ drop n hs → front ++ back ≡ hs
+both_parts n hs front back f b = rw (f, b, take-append-drop n hs)
 
-pub numbered_is : (word : List ℕ) (v : ℕ) (end : List ℕ) → v < 4294967296 → word ++ (text_of v ++ end) ≡ numbered word v end
-numbered_is word v end small = rw (printed_is v small)
+-- ---- texts with room
 
-pub refused_is : (v e : ℕ) → v ≡ e → v < 4294967296 → refused_word ++ (text_of v ++ newline) ≡ numbered refused_word e newline
-refused_is v e same small = numbered_is refused_word v newline small ∙ ap (λ (n : ℕ). numbered refused_word n newline) same
-
-pub live_is : (c : ℕ) (list : List ℕ) → c < 4294967296 → live_word ++ (text_of c ++ (colon ++ (spelled (take c list) ++ newline))) ≡ live_words c list
-live_is c list small = rw (printed_is c small) (rw (append_assoc live_word (decimal c ++ colon), append_assoc (decimal c) colon))
+-- what was to be put behind a text is there, since it fits
+pub when_fits : {A E P : Type 0} {F : Type 0} (r : Result A E) → (IsOk r ↔ F) → F → OnOk r P → P
+when_fits (Ok a) v f p = p
+when_fits (Err e) v f p = absurd (false≢true (v.1 f))
 
 -- ---- a grant and a refusal. Nothing rests on these two; docs/PORT.md names them.
 

@@ -31,7 +31,7 @@ pub joined_within : (room : ℕ) (line : List ℕ) (b : ℕ) → length (joined 
 joined_within room line b = omega (arith, length-take room (line ++ (b ∷ [])))
 
 -- to hold what is held and a byte is to hold the line and the byte
-joined_held : (room : ℕ) (line : List ℕ) (b : ℕ) → joined room (take room line) b ≡ joined room line b
+pub joined_held : (room : ℕ) (line : List ℕ) (b : ℕ) → joined room (take room line) b ≡ joined room line b
 joined_held room line b = go (dec_le (length line) room)
   where
     go : Dec (length line ≤ room) → joined room (take room line) b ≡ joined room line b
@@ -44,7 +44,7 @@ joined_held room line b = go (dec_le (length line) room)
 
 -- ---- with 81 bytes a line is too long, whatever follows
 
-meaning_held : (room : ℕ) (line : List ℕ) → 81 ≤ room → meaning (take room line) ≡ meaning line
+pub meaning_held : (room : ℕ) (line : List ℕ) → 81 ≤ room → meaning (take room line) ≡ meaning line
 unfolding meaning
 meaning_held room line h = go (dec_le (length line) room)
   where
@@ -60,7 +60,7 @@ meaning_held room line h = go (dec_le (length line) room)
 pub typed_none : (room : ℕ) (line ws list : List ℕ) → length line ≤ room → TypedHeld room line ws list [] line ws list
 typed_none room line ws list few = record { whole = line; typed = nothing; held = sym (take_all room line few) }
 
-typed_more : (room : ℕ) (line₀ ws₀ list₀ bytes line ws list : List ℕ) (b : ℕ) (line' ws' list' : List ℕ) → 81 ≤ room →
+pub typed_more : (room : ℕ) (line₀ ws₀ list₀ bytes line ws list : List ℕ) (b : ℕ) (line' ws' list' : List ℕ) → 81 ≤ room →
     TypedHeld room line₀ ws₀ list₀ bytes line ws list → TookByte room line ws list b line' ws' list' →
     TypedHeld room line₀ ws₀ list₀ (bytes ++ (b ∷ [])) line' ws' list'
 typed_more room line₀ ws₀ list₀ bytes line ws list b line' ws' list' h so took = go (ℕ_discrete b newline)

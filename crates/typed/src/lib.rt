@@ -43,10 +43,15 @@ type Line = ArrayVec<u8, 81>;
 fn obey(arena: &mut [u32], list: &mut [u32], text: &[u8]) -> Answer
     ensures { Obeyed (meaning text.now) arena.old list.old result arena.new list.new }
 {
-    match read_line(text) {
+    let order = read_line(text);
+    match order {
         Some(Order::Allocate(n, r, tag)) => Answer::Allocated(allocate(arena, n, r, tag)),
         Some(Order::Link(h, f, v)) => Answer::Written(write_reference(arena, Handle(h), f, v)),
-        Some(Order::Collect(roots)) => Answer::Collected(collect(arena, &roots, list)),
+        Some(Order::Collect(ref roots)) => Answer::Collected(collect(
+            arena,
+            roots.as_slice(),
+            list,
+        )),
         None => Answer::BadLine,
     }
 }

@@ -1,90 +1,112 @@
-// The answers in words: what is written of an answer is its words, byte by byte (specs/Answers).
-ghost use Rattle.std.specs.Prelude.{◌≤◌, length, Some, OnOk};
-ghost use Rattle.std.specs.Fmt.{WritesOnOk};
+// The answers in words: what is written of an answer is its words, byte by byte (specs/Answers). A text is made first, and its bytes are
+// proved, whatever the writer: to write it is then to pass it on, each answer at once, but for a long list, which goes in pieces.
+ghost use Rattle.std.specs.Prelude.{◌≡◌, ◌+◌, ◌≤◌, length, OnOk};
 ghost use Rattle.std.specs.Io.KnownBytes.{Appends};
-ghost use Rattle.model.specs.Numbers.{refusal_number};
-ghost use Rattle.typed.specs.Answers.{spelled, numbered, newline, refused_word, allocated_words, written_words, collected_words, answer_words};
+ghost use Rattle.typed.specs.Answers.{spelled, numbered, newline, refused_word, bad_line_words, allocated_words, written_words, collected_head, collected_words, answer_words};
 ghost use Rattle.typed.specs.Orders.{live_count, listed_count};
 
 use crate::Answer;
+use arrayvec::ArrayVec;
+use itoa::Buffer;
 use model::{Handle, Refusal};
-use std::fmt::Formatter;
+use numbers::number;
+use std::io;
 use std::io::Write;
-use std::{fmt, io};
 
-// Handles, each after a space.
-#[derive(Drop)]
-struct Handles<'a>(&'a [u32]);
+// The text of an answer but for the handles of a list, and of one handle.
+type Text = ArrayVec<u8, 32>;
 
-impl fmt::Display for Handles<'_> {
-    ghost output = { λ hs. Some (spelled hs.0.now) };
+// The text of at most 256 handles: each is a space and at most ten digits.
+type Piece = ArrayVec<u8, 2816>;
 
-    fn fmt<W: fmt::Write>(&self, f: &mut Formatter<W>) -> fmt::Result {
-        for &h in self.0 {
-            write!(f, " {h}")?;
+// A word, a number in decimal and what ends it: a u32 has at most ten digits.
+fn numbered_text(word: &[u8], v: u32, end: &[u8]) -> Text
+    requires { length word.now + 10 + length end.now ≤ 32 }
+    ensures upper_bound { length result.items ≤ length word.now + 10 + length end.now }
+    ensures text { result.items ≡ numbered word.now v end.now }
+{
+    let mut text = Text::new();
+    let mut digits = Buffer::new();
+    let _word = text.try_extend_from_slice(word);
+    let _number = text.try_extend_from_slice(digits.format(v).as_bytes());
+    let _end = text.try_extend_from_slice(end);
+    text
+}
+
+fn refused_text(number: u32) -> Text
+    ensures { result.items ≡ numbered refused_word number newline }
+{
+    numbered_text(b"refused ", number, b"\n")
+}
+
+fn allocated_text(a: Result<Handle, Refusal>) -> Text
+    ensures { result.items ≡ allocated_words a }
+{
+    match a {
+        Ok(h) => numbered_text(b"block ", h.0, b"\n"),
+        Err(_) => refused_text(number(&a)),
+    }
+}
+
+fn written_text(a: Result<(), Refusal>) -> Text
+    ensures { result.items ≡ written_words a }
+{
+    match a {
+        Ok(()) => {
+            let mut text = Text::new();
+            let _ok = text.try_extend_from_slice(b"ok\n");
+            text
         }
-        Ok(())
+        Err(_) => refused_text(number(&a)),
     }
 }
 
-fn refused_text<W: fmt::Write>(f: &mut Formatter<W>, e: Refusal) -> fmt::Result
-    ensures { WritesOnOk W.write_str_gives f.old result (numbered refused_word (refusal_number e) newline) f.new }
-{
-    writeln!(f, "refused {}", u32::from(e))
-}
-
-fn allocated_text<W: fmt::Write>(f: &mut Formatter<W>, a: Result<Handle, Refusal>) -> fmt::Result
-    ensures { WritesOnOk W.write_str_gives f.old result (allocated_words a) f.new }
+// A refusal, or what stands before the handles of a collection.
+fn collected_text(a: Result<u32, Refusal>) -> Text
+    ensures { result.items ≡ collected_head a }
 {
     match a {
-        Ok(h) => writeln!(f, "block {}", h.0),
-        Err(e) => refused_text(f, e),
+        Ok(c) => numbered_text(b"live ", c, b":"),
+        Err(_) => refused_text(number(&a)),
     }
 }
 
-fn written_text<W: fmt::Write>(f: &mut Formatter<W>, a: Result<(), Refusal>) -> fmt::Result
-    ensures { WritesOnOk W.write_str_gives f.old result (written_words a) f.new }
+// Each handle after a space.
+fn handles_text(handles: &[u32]) -> Piece
+    requires { length handles.now ≤ 256 }
+    ensures { result.items ≡ spelled handles.now }
 {
-    match a {
-        Ok(()) => writeln!(f, "ok"),
-        Err(e) => refused_text(f, e),
+    let mut text = Piece::new();
+    for &h in handles {
+        let _handle = text.try_extend_from_slice(&numbered_text(b" ", h, b""));
     }
+    text
+}
+
+// Writes the handles of a list, which may be more than a text has room for.
+fn pieces<W: Write>(output: &mut W, handles: &[u32]) -> io::Result<()>
+    ensures { OnOk result (Appends (W.contents output.old) (W.contents output.new) (spelled handles.now)) }
+{
+    let mut rest = handles;
+    while !rest.is_empty() {
+        let (piece, behind) = rest.split_at(rest.len().min(256));
+        output.write_all(&handles_text(piece))?;
+        rest = behind;
+    }
+    Ok(())
 }
 
 // Where blocks are live, the list holds their handles.
-fn collected_text<W: fmt::Write>(
-    f: &mut Formatter<W>,
-    a: Result<u32, Refusal>,
-    list: &[u32],
-) -> fmt::Result
+fn collected<W: Write>(output: &mut W, a: Result<u32, Refusal>, list: &[u32]) -> io::Result<()>
     requires { live_count a ≤ length list.now }
-    ensures { WritesOnOk W.write_str_gives f.old result (collected_words a list.now) f.new }
+    ensures { OnOk result (Appends (W.contents output.old) (W.contents output.new) (collected_words a list.now)) }
 {
-    match a {
-        Ok(c) => writeln!(f, "live {c}:{}", Handles(&list[..c as usize])),
-        Err(e) => refused_text(f, e),
-    }
-}
-
-// An answer, with the list that holds the handles of the blocks which it says are live.
-#[derive(Drop)]
-struct Said<'a> {
-    answer: Answer,
-    list: &'a [u32],
-    ghost listed: { listed_count answer ≤ length list.now },
-}
-
-impl fmt::Display for Said<'_> {
-    ghost output = { λ s. Some (answer_words s.answer s.list.now) };
-
-    fn fmt<W: fmt::Write>(&self, f: &mut Formatter<W>) -> fmt::Result {
-        match self.answer {
-            Answer::Allocated(a) => allocated_text(f, a),
-            Answer::Written(a) => written_text(f, a),
-            Answer::Collected(a) => collected_text(f, a, self.list),
-            Answer::BadLine => writeln!(f, "bad line"),
-        }
-    }
+    output.write_all(&collected_text(a))?;
+    let Ok(c) = a else {
+        return Ok(());
+    };
+    pieces(output, &list[..c as usize])?;
+    output.write_all(b"\n")
 }
 
 // Writes an answer.
@@ -92,5 +114,10 @@ pub fn answer<W: Write>(output: &mut W, answer: Answer, list: &[u32]) -> io::Res
     requires { listed_count answer ≤ length list.now }
     ensures { OnOk result (Appends (W.contents output.old) (W.contents output.new) (answer_words answer list.now)) }
 {
-    write!(output, "{}", Said { answer, list })
+    match answer {
+        Answer::Allocated(a) => output.write_all(&allocated_text(a)),
+        Answer::Written(a) => output.write_all(&written_text(a)),
+        Answer::Collected(a) => collected(output, a, list),
+        Answer::BadLine => output.write_all(b"bad line\n"),
+    }
 }

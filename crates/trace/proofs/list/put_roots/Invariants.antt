@@ -5,5 +5,5 @@ use Rattle.ways.proofs.Put.{put_all}
 use Rattle.trace.specs.List.{On}
 use Rattle.trace.proofs.list.put_roots.Given as goal
 
-abbrev pub invariant-loop-h : goal.invariant-loop-h
-invariant-loop-h l = On l.n (put_all [] (take l.h-index l.roots)) l.initial.list l.c l.list l.marks
+abbrev pub invariant-loop-p : goal.invariant-loop-p
+invariant-loop-p l = On l.n (put_all [] (take l.p l.roots)) l.initial.list l.c l.list l.marks

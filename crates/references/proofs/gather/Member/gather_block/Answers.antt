@@ -29,5 +29,4 @@ pub returns : goal.returns
 returns c =
     let p = c.requires in
     let m = c.args.self in
-    let inside = taken_inside m.arena.now m.s c.args.k p.taken in
-    gathered_step c.add_block.result p.gathered p.taken inside (handed_long m.of c.args.k c.block.ensures inside) m.of.member.class c.block.ensures c.add_block.ensures
+    gathered_step c.add_block.result p.gathered p.taken m.of.member.class c.block.ensures c.add_block.ensures
