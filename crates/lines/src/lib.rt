@@ -6,7 +6,7 @@
 // line finds exactly that.
 #![tactic(auto)]
 
-ghost use Rattle.std.specs.Prelude.{◌≡◌, true, false, ◌+◌, ◌-◌, ◌*◌, ◌<◌, ◌&&◌, map, length, SomeIff, MatchOption, leb};
+ghost use Rattle.std.specs.Prelude.{◌≡◌, true, false, ◌+◌, ◌-◌, ◌*◌, ◌<◌, ◌≤◌, ◌&&◌, map, length, SomeIff, MatchOption, leb};
 ghost use Rattle.lines.specs.Line.{is_digit, is_number, fields, all_numbers, value, said, meaning, order_meaning};
 
 use arrayvec::ArrayVec;
@@ -42,17 +42,19 @@ impl Model for Roots {
 }
 
 impl Roots {
-    fn of(numbers: &Numbers) -> Roots
-        ensures { result ≡ numbers.now.items }
+    pub fn of(roots: &[u32]) -> Roots
+        requires { length roots.now ≤ 16 }
+        ensures { result ≡ roots.now }
     {
-        let count = numbers.len();
+        let count = roots.len();
         let mut words = [0; 16];
-        words[..count].copy_from_slice(numbers);
+        words[..count].copy_from_slice(roots);
         Roots { words, count }
     }
 
     pub fn as_slice(&self) -> &[u32]
-        ensures { result.now ≡ self.now }
+        ensures value { result.now ≡ self.now }
+        ensures fits { length result.now ≤ 16 }
     {
         &self.words[..self.count]
     }

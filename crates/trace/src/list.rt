@@ -33,6 +33,7 @@ pub fn put_roots(n: u32, roots: &[u32], list: &mut [u32], marks: &mut [u32]) -> 
 {
     clear(marks, n);
     let mut c = 0;
+    // By position: what an edit reads in another order is then a fact of `root_at`.
     for p in 0..roots.len() {
         c = put_root(root_at(roots, p), list, c, marks);
     }

@@ -18,7 +18,7 @@ use Rattle.std.specs.Fmt.{decimal as text_of}
 use Rattle.std.proofs.lemmas.Fmt.{decimal_by_steps}
 use Rattle.std.proofs.Common.{take-append-drop}
 use Rattle.model.specs.Below.{first_from}
-use Rattle.typed.specs.Answers.{places, decimal, spelled, newline, colon, refused_word, live_word, numbered, said, live_words}
+use Rattle.typed.specs.Answers.{places, decimal, spelled, newline, refused_word, numbered, said}
 
 -- ---- a number in decimal
 

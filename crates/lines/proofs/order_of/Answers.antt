@@ -23,7 +23,7 @@ pub returns-in-76-len3 : goal.returns-in-76-len3
 returns-in-76-len3 c = rw (← c.as_slice.ensures.value) (said_links c.args.letter c.as_slice.result.now c.in-76-len3.is-0 (omega arith))
 
 pub returns-in-75-default : goal.returns-in-75-default
-returns-in-75-default c = rw c.of.ensures (said_collects c.args.letter c.args.numbers.items c.in-75-default.is-0 (omega (arith, ap length c.as_slice.ensures.value)))
+returns-in-75-default c = rw (c.of.ensures, c.deref.ensures.0) (said_collects c.args.letter c.args.numbers.items c.in-75-default.is-0 (omega (arith, ap length c.as_slice.ensures.value)))
 
 pub returns-in_default : goal.returns-in_default
 returns-in_default c =

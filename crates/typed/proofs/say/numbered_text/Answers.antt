@@ -34,12 +34,8 @@ module _ (c : goal.After-try_extend_from_slice-end) where
       let put = c.try_extend_from_slice-end in
       when_fits put.result put.ensures.variant (omega (arith, room, c.requires)) put.ensures.ok
 
-pub returns-clause-upper_bound : goal.returns-clause-upper_bound
-returns-clause-upper_bound c =
-    omega (arith, ap length (end c), length-append c.try_extend_from_slice-number.new.self.items c.args.end.now, room c)
-
-pub returns-clause-text : goal.returns-clause-text
-returns-clause-text c =
+pub returns : goal.returns
+returns c =
     let word = c.args.word.now in
     end c
     ∙ ap (λ (t : List ℕ). t ++ c.args.end.now) (number c ∙ ap (λ (t : List ℕ). word ++ t) (digits c))
