@@ -6,8 +6,9 @@
 // in crate lines, what a call gives in crate model; the words of an answer stand in module say.
 //
 // Shown here of each piece, behind what is held of the line before it: every line that ends is answered by the
-// call that it means (specs/Orders), and what is held is the line that goes on (specs/Held). What is written of an
-// answer is its words, byte by byte (specs/Answers). What the system reads and writes is not shown.
+// call that it means (specs/Orders), and what is held is the line that goes on (specs/Held). The text of an
+// answer is its words, byte by byte (specs/Answers), and that text is what is written. What the system reads and
+// writes is not shown.
 #![tactic(auto)]
 
 ghost use Rattle.std.specs.Prelude.{◌≡◌, ◌≤◌, [], length};
